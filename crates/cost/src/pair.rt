@@ -30,6 +30,7 @@ pub impl CostKind for Pair as PairKind {
         let right = c.first.counted() + d.first.counted();
         left < right
             || left == right
-                && self.second.counted() + b.second.counted() <= c.second.counted() + d.second.counted()
+                && self.second.counted() + b.second.counted()
+                    <= c.second.counted() + d.second.counted()
     }
 }

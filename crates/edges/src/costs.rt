@@ -10,7 +10,10 @@ fn whole(value: u64) -> Whole {
 }
 
 fn pair(first: u64, second: u64) -> Pair {
-    Pair { first: whole(first), second: whole(second) }
+    Pair {
+        first: whole(first),
+        second: whole(second),
+    }
 }
 
 #[test]

@@ -1,49 +1,49 @@
-use measure::fault::MakingFault;
 use nets::net::Net;
 use nets::nets::Nets;
 use std::alloc::AllocError;
 use std::alloc::Global;
 use std::test::*;
 
-// Some copies of one net, and some copies of one pin.
-#[derive(Clone, Copy)]
-struct Case {
-    parts: usize,
-    nets: usize,
-    net: Net,
-    pins: usize,
-    pin: u8,
-    // the refusal's number, 0 where the measure is made
-    number: u8,
+fn net(weight: u32, first: usize, count: usize) -> Net {
+    Net {
+        weight,
+        first,
+        count,
+    }
 }
 
-const NET: Net = Net { weight: 1, first: 0, count: 2 };
-
-fn answer(heap: Global, case: &Case) -> Result<u8, AllocError> {
-    let nets = vec![in heap; case.net; case.nets]?;
-    let pins = vec![in heap; case.pin; case.pins]?;
-    match Nets::make(case.parts, nets, pins) {
+// The number of the refusal of some copies of one net and some copies of one pin; 0 where the measure is made.
+fn answer(
+    heap: Global,
+    parts: usize,
+    nets: (usize, Net),
+    pins: (usize, u8),
+) -> Result<u8, AllocError> {
+    let nets = vec![in heap; nets.1; nets.0]?;
+    let pins = vec![in heap; pins.1; pins.0]?;
+    match Nets::make(parts, nets, pins) {
         Ok(_) => Ok(0),
-        Err(refused) => {
-            let fault: MakingFault = refused.fault;
-            Ok(fault.number())
-        }
+        Err(refused) => Ok(refused.fault.number()),
     }
 }
 
 #[test]
 fn limits(rt: LibcRuntime) -> Result<(), Fail> {
+    let one = net(1, 0, 2);
+    let heavy = net(1_000_000, 0, 2);
     let cases = [
-        Case { parts: 1, nets: 0, net: NET, pins: 0, pin: 0, number: 51 },
-        Case { parts: 2, nets: 0, net: NET, pins: 0, pin: 0, number: 0 },
-        Case { parts: 80, nets: 1, net: NET, pins: 2, pin: 79, number: 0 },
-        Case { parts: 81, nets: 1, net: NET, pins: 2, pin: 79, number: 51 },
-        Case { parts: 2, nets: 500, net: NET, pins: 4_000, pin: 1, number: 0 },
-        Case { parts: 2, nets: 501, net: NET, pins: 4_000, pin: 1, number: 52 },
-        Case { parts: 2, nets: 500, net: NET, pins: 4_001, pin: 1, number: 52 },
+        (1, (0, one), (0, 0), 51),
+        (2, (0, one), (0, 0), 0),
+        (80, (1, one), (2, 79), 0),
+        (81, (1, one), (2, 79), 51),
+        (2, (500, one), (4_000, 1), 0),
+        (2, (501, one), (4_000, 1), 52),
+        (2, (500, one), (4_001, 1), 52),
+        (0, (501, heavy), (0, 0), 51),
+        (2, (501, heavy), (0, 0), 52),
     ];
-    for case in &cases {
-        check_eq(answer(rt.alloc(), case)?, case.number)?;
+    for (parts, nets, pins, number) in cases {
+        check_eq(answer(rt.alloc(), parts, nets, pins)?, number)?;
     }
     Ok(())
 }
@@ -51,37 +51,25 @@ fn limits(rt: LibcRuntime) -> Result<(), Fail> {
 #[test]
 fn entries(rt: LibcRuntime) -> Result<(), Fail> {
     let cases = [
-        Case { parts: 2, nets: 1, net: Net { weight: 999_999, ..NET }, pins: 2, pin: 0, number: 0 },
-        Case { parts: 2, nets: 1, net: Net { weight: 1_000_000, ..NET }, pins: 2, pin: 0, number: 54 },
-        Case { parts: 2, nets: 1, net: Net { count: 0, ..NET }, pins: 2, pin: 0, number: 54 },
-        Case { parts: 2, nets: 1, net: Net { count: 80, ..NET }, pins: 80, pin: 0, number: 0 },
-        Case { parts: 2, nets: 1, net: Net { count: 81, ..NET }, pins: 81, pin: 0, number: 54 },
-        Case { parts: 2, nets: 1, net: Net { first: 5, ..NET }, pins: 7, pin: 0, number: 0 },
-        Case { parts: 2, nets: 1, net: Net { first: 6, ..NET }, pins: 7, pin: 0, number: 54 },
-        Case { parts: 2, nets: 1, net: Net { first: usize::MAX, ..NET }, pins: 7, pin: 0, number: 54 },
-        Case { parts: 2, nets: 0, net: NET, pins: 1, pin: 2, number: 54 },
+        (net(999_999, 0, 2), (2, 0), 0),
+        (net(1_000_000, 0, 2), (2, 0), 54),
+        (net(1, 0, 0), (2, 0), 54),
+        (net(1, 0, 80), (80, 0), 0),
+        (net(1, 0, 81), (81, 0), 54),
+        (net(1, 5, 2), (7, 0), 0),
+        (net(1, 6, 2), (7, 0), 54),
+        (net(1, usize::MAX, 2), (7, 0), 54),
+        (net(1, 0, 2), (3, 2), 54),
     ];
-    for case in &cases {
-        check_eq(answer(rt.alloc(), case)?, case.number)?;
-    }
-    Ok(())
-}
-
-#[test]
-fn earlier_checks_come_first(rt: LibcRuntime) -> Result<(), Fail> {
-    let cases = [
-        Case { parts: 0, nets: 501, net: Net { weight: 1_000_000, ..NET }, pins: 0, pin: 0, number: 51 },
-        Case { parts: 2, nets: 501, net: Net { weight: 1_000_000, ..NET }, pins: 0, pin: 0, number: 52 },
-    ];
-    for case in &cases {
-        check_eq(answer(rt.alloc(), case)?, case.number)?;
+    for (net, pins, number) in cases {
+        check_eq(answer(rt.alloc(), 2, (1, net), pins)?, number)?;
     }
     Ok(())
 }
 
 #[test]
 fn a_refusal_hands_the_tables_back(rt: LibcRuntime) -> Result<(), Fail> {
-    let nets = vec![in rt.alloc(); NET; 3]?;
+    let nets = vec![in rt.alloc(); net(1, 0, 2); 3]?;
     let pins = vec![in rt.alloc(); 7u8, 9]?;
     match Nets::make(2, nets, pins) {
         Ok(_) => Err(Fail::new("a pin out of range was accepted")),

@@ -16,7 +16,18 @@ fn answer(figure: &Nets, row: &[u8]) -> (u64, u8) {
 
 // Three parts; the second net names part 1 twice.
 fn figure(heap: Global) -> Result<Nets, Fail> {
-    let nets = vec![in heap; Net { weight: 5, first: 0, count: 3 }, Net { weight: 9, first: 3, count: 2 }]?;
+    let nets = vec![in heap;
+        Net {
+            weight: 5,
+            first: 0,
+            count: 3
+        },
+        Net {
+            weight: 9,
+            first: 3,
+            count: 2
+        },
+    ]?;
     let pins = vec![in heap; 0u8, 1, 2, 1, 1]?;
     match Nets::make(3, nets, pins) {
         Ok(figure) => Ok(figure),

@@ -18,5 +18,5 @@ leading-marks row = leading (λ x. ltb x 2) row
 abbrev pub asked : {X : Type 0} → ℕ → (List ℕ → X) → List ℕ → Result X RowFault
 asked n f row =
     cond (eqb (length row) n)
-      (cond (ltb (leading-marks row) n) (Err (Mark (leading-marks row))) (Ok (f row)))
-      (Err Length)
+    (cond (ltb (leading-marks row) n) (Err (Mark (leading-marks row))) (Ok (f row)))
+    (Err Length)

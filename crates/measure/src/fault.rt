@@ -74,10 +74,16 @@ pub impl fmt::Display for MakingFault as MakingFaultDisplay {
         match self {
             MakingFault::Count => write!(f, "51: there are not 2 to 80 parts or boxes"),
             MakingFault::TooMany => write!(f, "52: there are too many nets, pins or matrix rows"),
-            MakingFault::TableLength => write!(f, "53: a table is not as long as the number of parts asks"),
+            MakingFault::TableLength => write!(
+                f,
+                "53: a table is not as long as the number of parts asks"
+            ),
             MakingFault::Entry => write!(f, "54: an entry is out of its range"),
             MakingFault::EmptyBox => write!(f, "58: a box has no part"),
-            MakingFault::CountsDiffer => write!(f, "55: the two measures have different numbers of parts"),
+            MakingFault::CountsDiffer => write!(
+                f,
+                "55: the two measures have different numbers of parts"
+            ),
             MakingFault::Multiplier => write!(f, "56: a multiplier is not 1 to 1,000"),
             MakingFault::Ceiling => write!(f, "57: the ceiling is above 99,999,999,999"),
         }

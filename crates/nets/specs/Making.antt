@@ -24,7 +24,7 @@ pins-fit n pins = every (λ p. ltb p n) pins
 abbrev pub verdict : ℕ → List Net → List ℕ → Option MakingFault
 verdict n nets pins =
     cond (count-fits n)
-      (cond (leb (length nets) 500 && leb (length pins) 4000)
-        (cond (every (net-fits (length pins)) nets && pins-fit n pins) None (Some Entry))
-        (Some TooMany))
-      (Some Count)
+    (cond (leb (length nets) 500 && leb (length pins) 4000)
+    (cond (every (net-fits (length pins)) nets && pins-fit n pins) None (Some Entry))
+    (Some TooMany))
+    (Some Count)

@@ -73,7 +73,9 @@ pub impl Measure for Nets as NetsMeasure {
     }
 
     fn ceiling(&self) -> Whole {
-        Whole { value: self.ceiling }
+        Whole {
+            value: self.ceiling,
+        }
     }
 
     fn cost(&self, row: &[u8]) -> Result<Whole, RowFault> {

@@ -96,7 +96,12 @@ impl Nets {
             Some(fault) => Err(Refused { fault, nets, pins }),
             None => {
                 let ceiling = total_weight(nets.as_slice());
-                Ok(Nets { parts, nets, pins, ceiling })
+                Ok(Nets {
+                    parts,
+                    nets,
+                    pins,
+                    ceiling,
+                })
             }
         }
     }

@@ -38,7 +38,10 @@ fn price(rt: &LibcRuntime, figure: &Nets, row: &[u8]) -> io::Result<()> {
 fn price_all(rt: &LibcRuntime, figure: &Nets) -> io::Result<()> {
     let parts = figure.parts();
     let ceiling = figure.ceiling().counted();
-    println!(rt, "The figure has {parts} parts. If every net were divided, the connectors would cost {ceiling}.")?;
+    println!(
+        rt,
+        "The figure has {parts} parts. If every net were divided, the connectors would cost {ceiling}."
+    )?;
     println!(rt, "Each part alone on the second sheet:")?;
     price(rt, figure, &[1, 0, 0, 0])?;
     price(rt, figure, &[0, 1, 0, 0])?;
@@ -56,10 +59,26 @@ fn price_all(rt: &LibcRuntime, figure: &Nets) -> io::Result<()> {
 fn run(rt: &LibcRuntime) -> Result<(), AnyError> {
     let heap = rt.alloc();
     let nets = vec![in heap;
-        Net { weight: 3, first: 0, count: 2 },
-        Net { weight: 1, first: 2, count: 2 },
-        Net { weight: 2, first: 4, count: 2 },
-        Net { weight: 1, first: 6, count: 3 },
+        Net {
+            weight: 3,
+            first: 0,
+            count: 2
+        },
+        Net {
+            weight: 1,
+            first: 2,
+            count: 2
+        },
+        Net {
+            weight: 2,
+            first: 4,
+            count: 2
+        },
+        Net {
+            weight: 1,
+            first: 6,
+            count: 3
+        },
     ]?;
     let pins = vec![in heap; 0, 1, 1, 2, 2, 3, 0, 2, 3]?;
     match Nets::make(4, nets, pins) {
