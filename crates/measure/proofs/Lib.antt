@@ -1,3 +1,4 @@
+pub mod Asked
 pub mod Lists
 pub mod Rows
 pub mod Unfolds

@@ -1,5 +1,5 @@
 -- Which parts the complement of a row marks, and either and both of two rows. Assumes nothing.
-use mathlib.Core.Path.{_≡_, refl, sym, _∙_}
+use mathlib.Core.Path.{_≡_, refl, sym, ap, _∙_}
 use mathlib.Core.Bool.{not, _&&_, _||_}
 use mathlib.Core.List.{List, [], _∷_}
 use Prim.Native.Nat.{ℕ, zero, suc, _-_, _<_, min, max}
@@ -9,7 +9,12 @@ use Rattle.std.proofs.shelf.Lists.{getD-map}
 use Rattle.std.proofs.shelf.Ways.{tells}
 use Rattle.measure.specs.Rows.{Row, marks, complement, merged, either, both}
 
-getD-merged : (f : ℕ → ℕ → ℕ) (a b : List ℕ) (p : ℕ) → length a ≡ length b → p < length a → getD (merged f a b) p 0 ≡ f (getD a p 0) (getD b p 0)
+pub length-merged : (f : ℕ → ℕ → ℕ) (a b : List ℕ) → length a ≡ length b → length (merged f a b) ≡ length a
+length-merged f [] b e = refl
+length-merged f (x ∷ a) [] e = absurd (omega arith)
+length-merged f (x ∷ a) (y ∷ b) e = ap suc (length-merged f a b (omega arith))
+
+pub getD-merged : (f : ℕ → ℕ → ℕ) (a b : List ℕ) (p : ℕ) → length a ≡ length b → p < length a → getD (merged f a b) p 0 ≡ f (getD a p 0) (getD b p 0)
 getD-merged f [] b p e within = absurd (omega arith)
 getD-merged f (x ∷ a) [] p e within = absurd (omega arith)
 getD-merged f (x ∷ a) (y ∷ b) zero e within = refl

@@ -1,0 +1,5 @@
+pub mod Names
+pub mod Joined
+pub mod Single
+pub mod Records
+pub mod Numbers

@@ -1,0 +1,6 @@
+pub mod Certificate
+pub mod Order
+pub mod Phases
+pub mod Rows
+pub mod Slots
+pub mod Split
