@@ -242,6 +242,9 @@ module _ {C X : Type 0} (amount : C → X) (plus : X → X → X) (le : X → X 
     holds : Holds names lines (best-line amount plus le price names - 1)
     holds = sides (groups names - 1) names grouped counted (best-line amount plus le price names - 1) (best-range .1)
 
+    pub holds-cost : (d : Line C) → price (best-side amount plus le price names) ≡ getD lines (best-line amount plus le price names - 1) d .cost
+    holds-cost d = holds .1 d
+
     lower : (row : List ℕ) → Side names row → le (amount (price (best-side amount plus le price names))) (amount (price row)) ≡ true
     lower row side =
         let f = trace row side in

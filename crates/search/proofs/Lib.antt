@@ -16,3 +16,4 @@ pub mod Scan
 pub mod Sets
 pub mod Slots
 pub mod Sums
+pub mod Wholes

@@ -8,6 +8,7 @@ ghost use Rattle.cost.specs.Lines.{line-le};
 ghost use Rattle.partition.specs.Joined.{joined};
 ghost use Rattle.partition.specs.Names.{Named, groups};
 ghost use Rattle.search.specs.Phases.{phases, side-at};
+ghost use Rattle.search.specs.Rows.{alone};
 use crate::order::last_two;
 use crate::order::own_cost;
 use crate::order::own_costs;
@@ -59,6 +60,14 @@ fn line_at<C: Copy>(lines: &[Line<C>], i: usize) -> Line<C>
     lines[i]
 }
 
+// Marks the parts of the group u of a line.
+fn mark_line<C: Copy>(names: &[u8], line: Line<C>, row: &mut [u8])
+    requires row { ⌜ length (now row) ≡ length (now names) ⌝ }
+    ensures after { λ _. ⌜ now (row .exit) ≡ alone (now (names .entry)) (line .u) ⌝ }
+{
+    mark_alone(names, line.u, row);
+}
+
 // Marks the parts of the group u of the line at place b, in the groups as the lines before it join them.
 pub(crate) fn mark_side<C: Copy>(names: &mut [u8], lines: &[Line<C>], b: usize, row: &mut [u8])
     requires within { ⌜ b < length (now lines) ⌝ }
@@ -69,13 +78,14 @@ pub(crate) fn mark_side<C: Copy>(names: &mut [u8], lines: &[Line<C>], b: usize, 
         let line = line_at(lines, i);
         join(names, line.t, line.u);
     }
-    mark_alone(names, line_at(lines, b).u, row);
+    mark_line(names, line_at(lines, b), row);
 }
 
 // The number of the best of the first `count` lines.
 pub(crate) fn best_of<C: CostKind>(lines: &[Line<C>], count: usize) -> usize
     requires room { ⌜ count ≤ length (now lines) ⌝ }
     ensures answer { λ r. ⌜ r ≡ earliest (line-le (C·CostKind .amount) (C·CostKind .le)) (take count (now (lines .entry))) ⌝ }
+    ensures range { λ r. ⌜ (0 < count → (1 ≤ r) × (r ≤ count)) ⌝ }
 {
     earliest_line(&lines[0..count])
 }

@@ -16,7 +16,7 @@ returns g c =
     let done : c .args .b ≡ c .loop-i .i = omega arith in
     record {
       after =
-          c .mark-alone .ensures .after
+          c .mark-line .ensures .after
           ∙ side-here (c .args .lines .now) (c .args .b) (c .line-at .result) (c .loop-i .names) (c .pre .within) (c .line-at .ensures .answer)
           ∙ ap (λ (i : ℕ). side-at (c .args .b - i) (drop i (c .args .lines .now)) (c .loop-i .names)) done
           ∙ c .loop-i .inv;
