@@ -23,7 +23,7 @@ stands-below names p some h =
     ]
 
 module _ (names : List ℕ) (named : Named names) where
-  first-name : getD names 0 0 ≡ 0
+  pub first-name : getD names 0 0 ≡ 0
   first-name =
       elim (cases-lt 0 (length names)) [
         | inl l ↦ omega (arith, named .0 0 l)

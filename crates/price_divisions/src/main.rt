@@ -1,13 +1,25 @@
-// Prices some divisions of one figure: for each, what the connectors between the two sheets cost.
+// Prices some divisions of one figure, what the connectors between the two sheets cost, and finds its cheapest.
+use cost::line::Line;
+use cost::whole::Whole;
+use cost::whole::WholeKind;
 use measure::fault::MakingFaultDisplay;
 use measure::fault::RowFaultDisplay;
 use measure::measure::Measure;
 use nets::cut::NetsMeasure;
 use nets::net::Net;
 use nets::nets::Nets;
+use partition::partition::Partition;
+use search::find::find_split;
+use search::split::SplitFaultDisplay;
 use std::error::AnyError;
 use std::fmt;
 use std::io;
+
+const NO_LINE: Line<Whole> = Line {
+    t: 0,
+    u: 0,
+    cost: Whole { value: 0 },
+};
 
 // A mark row, printed as the parts that it puts on the second sheet.
 #[derive(Drop)]
@@ -56,6 +68,41 @@ fn price_all(rt: &LibcRuntime, figure: &Nets) -> io::Result<()> {
     price(rt, figure, &[1, 0, 2, 0])
 }
 
+// Finds and prints the cheapest division, with the lines that show that none costs less.
+fn break_figure(rt: &LibcRuntime, figure: &Nets) -> io::Result<()> {
+    let Some(groups) = Partition::singles(figure.parts()) else {
+        return println!(rt, "the figure has no parts to divide");
+    };
+    let mut row = [0u8; 4];
+    let mut lines = [NO_LINE; 3];
+    match find_split(figure, &groups, &mut row, &mut lines) {
+        Ok(found) => {
+            println!(
+                rt,
+                "Every division that puts the two parts of a line on different sheets costs at least:"
+            )?;
+            for (i, line) in lines.iter().enumerate() {
+                print_line(rt, i, line)?;
+            }
+            let best = found.best;
+            println!(
+                rt,
+                "The best is line {best}, so this division is the cheapest:"
+            )?;
+            price(rt, figure, &row)
+        }
+        Err(fault) => println!(rt, "the search is refused, {fault}"),
+    }
+}
+
+fn print_line(rt: &LibcRuntime, i: usize, line: &Line<Whole>) -> io::Result<()> {
+    let number = i.saturating_add(1);
+    let t = line.t;
+    let u = line.u;
+    let amount = line.cost.counted();
+    println!(rt, "line {number}: parts {t} and {u}, {amount}")
+}
+
 fn run(rt: &LibcRuntime) -> Result<(), AnyError> {
     let heap = rt.alloc();
     let nets = vec![in heap;
@@ -82,7 +129,10 @@ fn run(rt: &LibcRuntime) -> Result<(), AnyError> {
     ]?;
     let pins = vec![in heap; 0, 1, 1, 2, 2, 3, 0, 2, 3]?;
     match Nets::make(4, nets, pins) {
-        Ok(figure) => price_all(rt, &figure)?,
+        Ok(figure) => {
+            price_all(rt, &figure)?;
+            break_figure(rt, &figure)?
+        }
         Err(refused) => {
             let fault = refused.fault;
             println!(rt, "the figure is refused, {fault}")?

@@ -14,14 +14,15 @@ use Rattle.std.proofs.shelf.Tests.{eq-eqb, ne-eqb, eqb-false, or-right, cases-b
 use Rattle.cost.specs.Kind.{KindLaws}
 use Rattle.measure.specs.Laws.{MeasureLaws}
 use Rattle.partition.specs.Names.{stands, groups}
+use Rattle.partition.proofs.Counts.{kept-less}
 use Rattle.search.specs.Order.{beats, next, order}
 use Rattle.search.specs.Phases.{whole-order}
 use Rattle.search.specs.Rows.{marked-by, alone, added, left}
 use Rattle.search.proofs.Bools.{free-is, is-free, taken-now, still-free}
 use Rattle.search.proofs.Choice.{first-found}
-use Rattle.search.proofs.Counts.{kept-less, among-kept, among-counting, none-among}
+use Rattle.search.proofs.Among.{among-kept, among-counting, none-among}
 use Rattle.search.proofs.Marked.{taken, added-taken, alone-taken}
-use Rattle.search.proofs.Names.{Grouped, first-name, stands-below, unordered-is, fair}
+use Rattle.search.proofs.Names.{Grouped, standing-part, zero-stands, unordered-is, fair}
 use Rattle.search.proofs.Pendant.{pendant}
 use Rattle.search.proofs.Sets.{Set, Ordered, among}
 use Rattle.search.proofs.Sums.{sums, differences}
@@ -46,7 +47,7 @@ module _ {n : ℕ} {names : List ℕ} (grouped : Grouped n names) where
   in-left : (ordered : List ℕ) (p : ℕ) → stands names p ≡ true → among ordered p ≡ false → among (left names (taken names ordered)) p ≡ true
   in-left ordered p h k =
       among-kept _ (counting 0 (length names)) p
-      ∙ and-from _ _ (unordered-is grouped ordered p ∙ is-free _ _ h k) (among-counting p 0 (length names) (omega arith) (omega (arith, stands-below grouped p h)))
+      ∙ and-from _ _ (unordered-is grouped ordered p ∙ is-free _ _ h k) (among-counting p 0 (length names) (omega arith) (omega (arith, standing-part grouped p h)))
 
   out-left : (ordered : List ℕ) (p : ℕ) → among (left names (taken names ordered)) p ≡ true → (stands names p ≡ true) × (among ordered p ≡ false)
   out-left ordered p h =
@@ -58,14 +59,14 @@ module _ {n : ℕ} {names : List ℕ} (grouped : Grouped n names) where
   fewer ordered m h k =
       kept-less _ _ m (unordered-is grouped ordered m ∙ is-free _ _ h k) (unordered-is grouped (m ∷ ordered) m ∙ taken-now _ _ (eqb m m) (eq-eqb m m refl))
       (λ p e. unordered-is grouped ordered p ∙ still-free _ _ (eqb p m) (ne-eqb p m e) ∙ sym (unordered-is grouped (m ∷ ordered) p))
-      0 (length names) (omega arith) (omega (arith, stands-below grouped m h))
+      0 (length names) (omega arith) (omega (arith, standing-part grouped m h))
 
   -- one ordered: one fewer left than there are groups
   pub start : (m : ℕ) → stands names m ≡ true → groups names ≡ suc (length (left names (taken names (m ∷ []))))
   start m h =
       kept-less _ _ m h (unordered-is grouped (m ∷ []) m ∙ taken-now _ _ (eqb m m) (eq-eqb m m refl))
       (λ p e. alone-left (stands names p) (eqb p m) (ne-eqb p m e) ∙ sym (unordered-is grouped (m ∷ []) p))
-      0 (length names) (omega arith) (omega (arith, stands-below grouped m h))
+      0 (length names) (omega arith) (omega (arith, standing-part grouped m h))
     where
       alone-left : (a e : Bool) → e ≡ false → a ≡ (a && not (e || false))
       alone-left a e k = grind arith
@@ -124,7 +125,7 @@ module _ {n : ℕ} {names : List ℕ} (grouped : Grouped n names) where
 
     pub order-arranged : (k : ℕ) → groups names ≡ suc (suc k) → Arranged (order amount plus le price (suc k) names (alone names 0) (0 ∷ []))
     order-arranged k h =
-        let z : stands names 0 ≡ true = eq-eqb _ _ (first-name grouped) in
+        let z : stands names 0 ≡ true = zero-stands grouped in
         let f = start 0 z in
         let s = step 0 [] k z (omega arith) in
         let m = next amount plus le price names (alone names 0) in

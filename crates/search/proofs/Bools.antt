@@ -61,13 +61,6 @@ two-ways true false h = inr (refl, refl)
 two-ways false true h = inl (refl, refl)
 two-ways false false h = absurd (h refl)
 
--- a: stands after a join; b: stands before; e: is the name that goes
-pub goes : (a b e : Bool) → a ≡ (b && not e) → e ≡ true → a ≡ false
-goes a b e h k = grind arith
-
-pub stays : (a b e : Bool) → a ≡ (b && not e) → e ≡ false → b ≡ a
-stays a b e h k = grind arith
-
 -- a: stands; b: was chosen; e: is the name chosen next
 pub free-is : (a b c : Bool) → ((a && not b) && c) ≡ true → (a ≡ true) × (b ≡ false)
 free-is true true c h = grind arith

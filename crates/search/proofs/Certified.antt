@@ -21,13 +21,16 @@ use Rattle.measure.specs.Laws.{MeasureLaws}
 use Rattle.measure.specs.Rows.{Row, marks}
 use Rattle.partition.specs.Joined.{renamed, joined}
 use Rattle.partition.specs.Names.{stands, groups}
+use Rattle.partition.proofs.Joins.{getD-joined, joined-groups, test-renamed}
+use Rattle.partition.proofs.Names.{name-of-name, name-stands, stands-is}
 use Rattle.search.specs.Certificate.{Side, separates, LeastCost, Traced, Certified}
 use Rattle.search.specs.Phases.{line-of, whole-order, phases, lines-of, side-at}
 use Rattle.search.specs.Rows.{bit, marked-by, alone}
 use Rattle.search.specs.Split.{best-line, best-side}
+use Rattle.search.proofs.Divided.{marks-alike, divides-none}
 use Rattle.search.proofs.Arranged.{start, all-taken, ends, order-arranged, last-two}
 use Rattle.search.proofs.Marked.{marked-row, marks-marked, getD-map-in, map-agree}
-use Rattle.search.proofs.Names.{Grouped, first-name, stands-below, stands-is, name-stands, named-all, test-renamed, getD-joined, joined-grouped, joined-groups}
+use Rattle.search.proofs.Names.{Grouped, standing-part, joined-grouped}
 
 apart-yes : (a b : Bool) → ¬ (a ≡ b) → cond a (not b) b ≡ true
 apart-yes true true h = absurd (h refl)
@@ -57,7 +60,7 @@ side-marks {names = names} row grouped side =
   where
     at : (i : ℕ) → i < length names → getD row i 0 ≡ getD (marked-by (marks row) names) i 0
     at i h =
-        let own : marks row i ≡ marks row (getD names i 0) = side .whole i (getD names i 0) h (stands-below grouped _ (name-stands grouped i)) (sym (named-all grouped i)) in
+        let own : marks row i ≡ marks row (getD names i 0) = marks-alike names row (side .whole) i (getD names i 0) h (standing-part grouped _ (name-stands names (grouped .named) i)) (sym (name-of-name names (grouped .named) i)) in
         bit-of _ (side .row-is .bits i h) ∙ ap bit own ∙ sym (getD-map-in _ names i h)
 
 module _ {n : ℕ} {names : List ℕ} (grouped : Grouped n names) (t u : ℕ)
@@ -74,31 +77,31 @@ module _ {n : ℕ} {names : List ℕ} (grouped : Grouped n names) (t u : ℕ)
         lacked = side .lacked;
         lacked-part = subst (λ m. side .lacked < m) size (side .lacked-part);
         lacks = side .lacks;
-        whole = λ p q hp hq e.
-            side .whole p q (subst (λ m. p < m) (sym size) hp) (subst (λ m. q < m) (sym size) hq)
-            (getD-joined grouped t u ts us ne p ∙ ap (renamed t u) e ∙ sym (getD-joined grouped t u ts us ne q));
+        whole = divides-none names row (λ p q hp hq e.
+            marks-alike (joined t u names) row (side .whole) p q (subst (λ m. p < m) (sym size) hp) (subst (λ m. q < m) (sym size) hq)
+            (getD-joined t u ne names p ∙ ap (renamed t u) e ∙ sym (getD-joined t u ne names q)));
       }
 
   stands-after : (a : ℕ) → stands names a ≡ true → stands (joined t u names) (renamed t u a) ≡ true
   stands-after a h =
-      subst (λ q. stands (joined t u names) q ≡ true) (getD-joined grouped t u ts us ne a ∙ ap (renamed t u) (stands-is grouped a h))
-      (name-stands (joined-grouped grouped t u ts us ne) a)
+      subst (λ q. stands (joined t u names) q ≡ true) (getD-joined t u ne names a ∙ ap (renamed t u) (stands-is names a h))
+      (name-stands (joined t u names) (joined-grouped grouped t u ts us ne .named) a)
 
   -- the group of u alone is a side
   last-side : Side names (alone names u)
   last-side = record {
     row-is = marked-row _ names;
     held = u;
-    held-part = stands-below grouped u us;
+    held-part = standing-part grouped u us;
     holds = at u us ∙ eq-eqb u u refl;
     lacked = t;
-    lacked-part = stands-below grouped t ts;
+    lacked-part = standing-part grouped t ts;
     lacks = at t ts ∙ ne-eqb t u ne;
-    whole = λ p q hp hq e. marks-marked _ names p hp ∙ ap (λ w. eqb w u) e ∙ sym (marks-marked _ names q hq);
+    whole = divides-none names (alone names u) (λ p q hp hq e. marks-marked _ names p hp ∙ ap (λ w. eqb w u) e ∙ sym (marks-marked _ names q hq));
   }
     where
       at : (p : ℕ) → stands names p ≡ true → marks (alone names u) p ≡ eqb p u
-      at p h = marks-marked (λ w. eqb w u) names p (stands-below grouped p h) ∙ ap (λ w. eqb w u) (stands-is grouped p h)
+      at p h = marks-marked (λ w. eqb w u) names p (standing-part grouped p h) ∙ ap (λ w. eqb w u) (stands-is names p h)
 
 -- with one group, all standing names are one
 one-name : {n : ℕ} {names : List ℕ} → Grouped n names → groups names ≡ 1 → (a b : ℕ) → stands names a ≡ true → stands names b ≡ true → a ≡ b
@@ -109,7 +112,6 @@ one-name grouped h a b sa sb =
 
 module _ {C X : Type 0} (amount : C → X) (plus : X → X → X) (le : X → X → Bool) (price : List ℕ → C)
     (laws : KindLaws plus le) {n : ℕ} (top : X) (measure : MeasureLaws plus le n (λ row. amount (price row)) top) where
-
   pub length-phases : (k : ℕ) (names : List ℕ) → length (phases amount plus le price k names) ≡ k
   length-phases zero names = refl
   length-phases (suc k) names = ap suc (length-phases k _)
@@ -151,7 +153,7 @@ module _ {C X : Type 0} (amount : C → X) (plus : X → X → X) (le : X → X 
       (elim (same-or-not (marks row t) (marks row u)) [
         | inl e ↦
             later x row _ _ (apart-no _ _ e)
-            (separated-first k (joined t u names) (joined-grouped grouped t u ts us ne) (omega (arith, joined-groups grouped t u ts us ne)) row
+            (separated-first k (joined t u names) (joined-grouped grouped t u ts us ne) (omega (arith, joined-groups names (grouped .named) t u ts us ne)) row
             (renamed t u a) (renamed t u b) (stands-after grouped t u ts us ne a sa) (stands-after grouped t u ts us ne b sb)
             (λ f. differ (sym (test-renamed (marks row) t u a e) ∙ f ∙ test-renamed (marks row) t u b e))
             x
@@ -181,8 +183,8 @@ module _ {C X : Type 0} (amount : C → X) (plus : X → X → X) (le : X → X 
       let (ts, us, ne, _) = ends grouped amount plus le price laws _ arr in
       subst (λ ordered. All (λ l. (l .t < n) × (l .u < n)) (line-of amount plus le price names ordered ∷ phases amount plus le price k (joined (getD ordered 1 0) (getD ordered 0 0) names)))
       (sym (arr .ordered-is)) (
-        (omega (arith, stands-below grouped t ts, grouped .size), omega (arith, stands-below grouped u us, grouped .size)),
-        parts k (joined t u names) (joined-grouped grouped t u ts us ne) (omega (arith, joined-groups grouped t u ts us ne)),
+        (omega (arith, standing-part grouped t ts, grouped .size), omega (arith, standing-part grouped u us, grouped .size)),
+        parts k (joined t u names) (joined-grouped grouped t u ts us ne) (omega (arith, joined-groups names (grouped .named) t u ts us ne)),
       )
 
   -- each line's group is a side of the groups at first, and costs what the line says
@@ -200,7 +202,7 @@ module _ {C X : Type 0} (amount : C → X) (plus : X → X → X) (le : X → X 
       let (ts, us, ne, _) = ends grouped amount plus le price laws _ arr in
       subst (λ ordered. Holds names (line-of amount plus le price names ordered ∷ phases amount plus le price k (joined (getD ordered 1 0) (getD ordered 0 0) names)) b)
       (sym (arr .ordered-is))
-      (at b h t u (arr .w) ts us ne (λ c l. sides k (joined t u names) (joined-grouped grouped t u ts us ne) (omega (arith, joined-groups grouped t u ts us ne)) c l))
+      (at b h t u (arr .w) ts us ne (λ c l. sides k (joined t u names) (joined-grouped grouped t u ts us ne) (omega (arith, joined-groups names (grouped .named) t u ts us ne)) c l))
     where
       at : (b : ℕ) → b < suc k → (t u : ℕ) (w : List ℕ) (ts : stands names t ≡ true) (us : stands names u ≡ true) (ne : ¬ (t ≡ u)) →
           ((c : ℕ) → c < k → Holds (joined t u names) (phases amount plus le price k (joined t u names)) c) →
@@ -220,12 +222,12 @@ module _ {C X : Type 0} (amount : C → X) (plus : X → X → X) (le : X → X 
     trace : (row : List ℕ) → Side names row → Traced amount le price names lines row
     trace row side =
         let f = separated-first (groups names - 1) names grouped counted row
-            (getD names (side .held) 0) (getD names (side .lacked) 0) (name-stands grouped _) (name-stands grouped _) differ
-            (amount (price row)) (ap (λ r. amount (price r)) (sym (side-marks row grouped side))) in
+        (getD names (side .held) 0) (getD names (side .lacked) 0) (name-stands names (grouped .named) _) (name-stands names (grouped .named) _) differ
+        (amount (price row)) (ap (λ r. amount (price r)) (sym (side-marks row grouped side))) in
         record { before = f .before; line = f .line; after = f .after; listed = f .listed; earlier = f .earlier; separated = f .separated; cheap = f .cheap }
       where
         own : (p : ℕ) → p < length names → marks row p ≡ marks row (getD names p 0)
-        own p h = side .whole p (getD names p 0) h (stands-below grouped _ (name-stands grouped p)) (sym (named-all grouped p))
+        own p h = marks-alike names row (side .whole) p (getD names p 0) h (standing-part grouped _ (name-stands names (grouped .named) p)) (sym (name-of-name names (grouped .named) p))
 
         differ : ¬ (marks row (getD names (side .held) 0) ≡ marks row (getD names (side .lacked) 0))
         differ e = both-ways _ (side .lacks) (own _ (side .lacked-part) ∙ sym e ∙ sym (own _ (side .held-part)) ∙ side .holds)

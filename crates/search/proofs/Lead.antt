@@ -11,7 +11,7 @@ use Rattle.std.specs.shelf.Lists.{kept-by}
 use Rattle.std.proofs.shelf.Tests.{cases-eq, cases-bool, and-parts, and-from, both-ways, cond-true, cond-false}
 use Rattle.search.specs.Order.{unbeaten, first-unbeaten}
 use Rattle.search.proofs.Choice.{from-unbeaten, to-unbeaten, self}
-use Rattle.search.proofs.Counts.{among-kept, among-counting, counting-among}
+use Rattle.search.proofs.Among.{among-kept, among-counting, counting-among}
 
 -- among the names below i that pass q, b leads: none of them beats it, and it beats each lower one
 pub record Lead (q : ℕ → Bool) (wins : ℕ → ℕ → Bool) (i b : ℕ) : Type 0 where

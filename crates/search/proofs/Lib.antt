@@ -1,9 +1,10 @@
 pub mod Along
+pub mod Among
 pub mod Arranged
 pub mod Bools
 pub mod Certified
 pub mod Choice
-pub mod Counts
+pub mod Divided
 pub mod Filled
 pub mod Lead
 pub mod Listed

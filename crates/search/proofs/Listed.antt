@@ -12,10 +12,11 @@ use Rattle.cost.specs.Kind.{KindLaws}
 use Rattle.cost.specs.declared.line.Line.{Line}
 use Rattle.partition.specs.Joined.{joined}
 use Rattle.partition.specs.Names.{groups, stands}
+use Rattle.partition.proofs.Joins.{joined-groups}
 use Rattle.search.specs.Phases.{line-of, whole-order, phases}
 use Rattle.search.specs.Rows.{alone}
 use Rattle.search.proofs.Arranged.{Ends, order-ends}
-use Rattle.search.proofs.Names.{Grouped, joined-grouped, joined-groups}
+use Rattle.search.proofs.Names.{Grouped, joined-grouped}
 
 module _ {C X : Type 0} (amount : C → X) (plus : X → X → X) (le : X → X → Bool) (price : List ℕ → C) (n count : ℕ) (names : List ℕ) (lines : List (Line C)) where
   -- after i turns: `done` are the lines of the first i phases, and the others go on from the names as they now are
@@ -80,7 +81,7 @@ module _ {C X : Type 0} (amount : C → X) (plus : X → X → X) (le : X → X 
               ap (λ ls. getD ls k d) el ∙ getD-set-other own-lines i k line d apart ∙ later k d (omega (arith, f .standing)) ∙ f .rest k d l;
           long = ap length el ∙ length-set own-lines i line ∙ own-long ∙ f .long;
           grouped = subst (Grouped n) (sym ej) (joined-grouped (f .grouped) t u ts us ne);
-          standing = ap groups ej ∙ omega (arith, f .standing, joined-groups (f .grouped) t u ts us ne);
+          standing = ap groups ej ∙ omega (arith, f .standing, joined-groups now-names (f .grouped .named) t u ts us ne);
         }
       where
         line : Line C

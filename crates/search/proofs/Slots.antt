@@ -9,11 +9,8 @@ use lib.ListN.{length, getD}
 use Rattle.std.specs.Iters.{counting}
 use Rattle.std.specs.shelf.Lists.{kept-by}
 use Rattle.partition.specs.Names.{stands, groups}
+use Rattle.partition.proofs.Counts.{length-cell}
 use Rattle.search.specs.Slots.{between}
-
-kept-cell : (b : Bool) (x : ℕ) (ys : List ℕ) → length (cond b (x ∷ ys) ys) ≡ cond b 1 0 + length ys
-kept-cell true x ys = omega arith
-kept-cell false x ys = omega arith
 
 cell-low : (b : Bool) → cond {A = ℕ} b 1 0 ≤ 1
 cell-low true = omega arith
@@ -21,17 +18,17 @@ cell-low false = omega arith
 
 -- one more number passes or not
 kept-more : (q : ℕ → Bool) (a k : ℕ) → length (kept-by q (counting a (suc k))) ≡ length (kept-by q (counting a k)) + cond (q (a + k)) 1 0
-kept-more q a zero = let e : a + 0 ≡ a = omega arith in kept-cell (q a) a [] ∙ omega (arith, ap (λ x. cond {A = ℕ} (q x) 1 0) e)
+kept-more q a zero = let e : a + 0 ≡ a = omega arith in length-cell (q a) a [] ∙ omega (arith, ap (λ x. cond {A = ℕ} (q x) 1 0) e)
 kept-more q a (suc k) =
-    let one = kept-cell (q a) a (kept-by q (counting (a + 1) (suc k))) in
-    let two = kept-cell (q a) a (kept-by q (counting (a + 1) k)) in
+    let one = length-cell (q a) a (kept-by q (counting (a + 1) (suc k))) in
+    let two = length-cell (q a) a (kept-by q (counting (a + 1) k)) in
     let rest = kept-more q (a + 1) k in
     let e : a + 1 + k ≡ a + suc k = omega arith in
     omega (arith, one, two, rest, ap (λ x. cond {A = ℕ} (q x) 1 0) e)
 
 kept-low : (q : ℕ → Bool) (a k : ℕ) → length (kept-by q (counting a k)) ≤ k
 kept-low q a zero = omega arith
-kept-low q a (suc k) = let one = kept-cell (q a) a (kept-by q (counting (a + 1) k)) in let bit = cell-low (q a) in omega (arith, one, bit, kept-low q (a + 1) k)
+kept-low q a (suc k) = let one = length-cell (q a) a (kept-by q (counting (a + 1) k)) in let bit = cell-low (q a) in omega (arith, one, bit, kept-low q (a + 1) k)
 
 -- there are at most as many groups as parts
 pub groups-low : (names : List ℕ) → groups names ≤ length names
@@ -57,7 +54,7 @@ pub between-all : (names : List ℕ) → 0 < length names → stands names 0 ≡
 between-all names some first =
     let back : length names ≡ suc (length names - 1) = omega arith in
     ap (λ k. length (kept-by (stands names) (counting 0 k))) back
-    ∙ kept-cell (stands names 0) 0 (kept-by (stands names) (counting 1 (length names - 1)))
+    ∙ length-cell (stands names 0) 0 (kept-by (stands names) (counting 1 (length names - 1)))
     ∙ ap (λ b. cond b 1 0 + between names (length names)) first
 
 -- a standing name's place lies before those of the later ones

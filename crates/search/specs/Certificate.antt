@@ -1,12 +1,23 @@
 -- The certificate: what a division is worth. `names` gives each part the name of its group. Assumes nothing.
 use mathlib.Core.Path.{_≡_}
-use mathlib.Core.Bool.{Bool, true, false, not, cond}
+use mathlib.Core.Bool.{Bool, true, false, not, cond, _&&_}
 use mathlib.Core.List.{List, _∷_, _++_}
 use Prim.Native.Nat.{ℕ, _<_}
+use lib.Dec.{eqb}
 use lib.ListN.{length, getD}
+use Rattle.std.specs.Iters.{counting}
 use Rattle.std.specs.shelf.Lists.{All}
 use Rattle.cost.specs.declared.line.Line.{Line}
+use Rattle.measure.specs.Lists.{any}
 use Rattle.measure.specs.Rows.{Row, marks}
+
+-- parts p and q lie in one group, and the row marks p and not q
+abbrev pub cuts-between : List ℕ → List ℕ → ℕ → ℕ → Bool
+cuts-between names row p q = eqb (getD names p 0) (getD names q 0) && (marks row p && not (marks row q))
+
+-- the row divides a group: it marks one of its parts and leaves another unmarked
+abbrev pub divides : List ℕ → List ℕ → Bool
+divides names row = any (λ p. any (cuts-between names row p) (counting 0 (length names))) (counting 0 (length names))
 
 -- a row of marks that holds some part, lacks some part and divides no group
 pub record Side (names row : List ℕ) : Type 0 where
@@ -17,7 +28,7 @@ pub record Side (names row : List ℕ) : Type 0 where
   pub lacked : ℕ
   pub lacked-part : lacked < length names
   pub lacks : marks row lacked ≡ false
-  pub whole : (p q : ℕ) → p < length names → q < length names → getD names p 0 ≡ getD names q 0 → marks row p ≡ marks row q
+  pub whole : divides names row ≡ false
 
 -- the row marks exactly one of the parts a and b
 abbrev pub separates : List ℕ → ℕ → ℕ → Bool

@@ -1,4 +1,5 @@
 pub mod Certificate
+pub mod Numbers
 pub mod Order
 pub mod Phases
 pub mod Rows

@@ -15,10 +15,6 @@ use Rattle.search.specs.declared.split.Split.{Split}
 use Rattle.search.specs.declared.split.SplitFault.{SplitFault}
 use Rattle.search.specs.declared.split.SplitFault.the-variants.{Length, Lines}
 
-abbrev pub split-number : SplitFault → ℕ
-split-number Length = 61
-split-number Lines = 44
-
 module _ {C X : Type 0} (amount : C → X) (plus : X → X → X) (le : X → X → Bool) (price : List ℕ → C) (names : List ℕ) where
   -- the number of the best line, from 1
   abbrev pub best-line : ℕ

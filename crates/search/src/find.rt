@@ -8,10 +8,10 @@ ghost use Rattle.partition.specs.Names.{Named, groups, names-of};
 ghost use Rattle.search.specs.Certificate.{Certified};
 ghost use Rattle.search.specs.Phases.{lines-of, phases, side-at};
 ghost use Rattle.search.specs.Split.{best-side, found, lines-after, row-after, split-answer};
+use crate::own::cost_at;
 use crate::phases::best_of;
 use crate::phases::find_lines;
 use crate::phases::mark_side;
-use crate::order::cost_at;
 use crate::split::Split;
 use crate::split::SplitFault;
 use cost::line::Line;
@@ -30,7 +30,13 @@ fn copied(names: &[u8]) -> [u8; 80]
 }
 
 // Writes the lines of the groups that the names give.
-fn write_lines<M: Measure>(measure: &M, names: &[u8], count: usize, row: &mut [u8], lines: &mut [Line<M::Cost>])
+fn write_lines<M: Measure>(
+    measure: &M,
+    names: &[u8],
+    count: usize,
+    row: &mut [u8],
+    lines: &mut [Line<M::Cost>],
+)
     requires some { ⌜ 0 < length (now names) ⌝ }
     requires parts { ⌜ length (now names) ≡ M·Measure .count (now measure) ⌝ }
     requires few { ⌜ length (now names) ≤ 80 ⌝ }
@@ -43,7 +49,14 @@ fn write_lines<M: Measure>(measure: &M, names: &[u8], count: usize, row: &mut [u
     let n = names.len();
     let mut work = copied(names);
     let mut scratch = [0u8; 80];
-    find_lines(measure, &mut work[0..n], count, lines, row, &mut scratch[0..n]);
+    find_lines(
+        measure,
+        &mut work[0..n],
+        count,
+        lines,
+        row,
+        &mut scratch[0..n],
+    );
 }
 
 // Marks the side of the line at place b.
@@ -59,7 +72,13 @@ fn write_side<C: Copy>(names: &[u8], lines: &[Line<C>], b: usize, row: &mut [u8]
 }
 
 // Splits the groups that the names give; `standing` is their number.
-fn split_names<M: Measure>(measure: &M, names: &[u8], standing: usize, row: &mut [u8], lines: &mut [Line<M::Cost>]) -> Split<M::Cost>
+fn split_names<M: Measure>(
+    measure: &M,
+    names: &[u8],
+    standing: usize,
+    row: &mut [u8],
+    lines: &mut [Line<M::Cost>],
+) -> Split<M::Cost>
     requires parts { ⌜ length (now names) ≡ M·Measure .count (now measure) ⌝ }
     requires few { ⌜ length (now names) ≤ 80 ⌝ }
     requires named { ⌜ Named (now names) ⌝ }
@@ -97,7 +116,12 @@ fn names_of(groups: &Partition) -> [u8; 80]
 }
 
 // Finds a least side: marks it in the row, and writes a line for each phase into the front of the lines. A refusal leaves both as they were.
-pub fn find_split<M: Measure>(measure: &M, groups: &Partition, row: &mut [u8], lines: &mut [Line<M::Cost>]) -> Result<Split<M::Cost>, SplitFault>
+pub fn find_split<M: Measure>(
+    measure: &M,
+    groups: &Partition,
+    row: &mut [u8],
+    lines: &mut [Line<M::Cost>],
+) -> Result<Split<M::Cost>, SplitFault>
     ensures answer { λ r. ⌜ r ≡ split-answer (Cost·CostKind .amount) (Cost·CostKind .plus) (Cost·CostKind .le) (M·Measure .price (now (measure .entry))) (names-of (now (groups .entry) .table)) (M·Measure .count (now (measure .entry))) (now (row .entry)) (now (lines .entry)) ⌝ }
     ensures row { λ _. ⌜ now (row .exit) ≡ row-after (Cost·CostKind .amount) (Cost·CostKind .plus) (Cost·CostKind .le) (M·Measure .price (now (measure .entry))) (names-of (now (groups .entry) .table)) (M·Measure .count (now (measure .entry))) (now (row .entry)) (now (lines .entry)) ⌝ }
     ensures lines { λ _. ⌜ now (lines .exit) ≡ lines-after (Cost·CostKind .amount) (Cost·CostKind .plus) (Cost·CostKind .le) (M·Measure .price (now (measure .entry))) (names-of (now (groups .entry) .table)) (M·Measure .count (now (measure .entry))) (now (row .entry)) (now (lines .entry)) ⌝ }

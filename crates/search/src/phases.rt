@@ -10,9 +10,9 @@ ghost use Rattle.partition.specs.Names.{Named, groups};
 ghost use Rattle.search.specs.Phases.{phases, side-at};
 ghost use Rattle.search.specs.Rows.{alone};
 use crate::order::last_two;
-use crate::order::own_cost;
-use crate::order::own_costs;
-use crate::order::put_line;
+use crate::own::own_cost;
+use crate::own::own_costs;
+use crate::own::put_line;
 use crate::rows::mark_alone;
 use cost::kind::CostKind;
 use cost::line::Line;
@@ -33,7 +33,14 @@ fn join(names: &mut [u8], t: u8, u: u8)
 }
 
 // Runs `count` phases, with count + 1 groups at first, and writes a line for each.
-pub(crate) fn find_lines<M: Measure>(measure: &M, names: &mut [u8], count: usize, lines: &mut [Line<M::Cost>], row: &mut [u8], scratch: &mut [u8])
+pub(crate) fn find_lines<M: Measure>(
+    measure: &M,
+    names: &mut [u8],
+    count: usize,
+    lines: &mut [Line<M::Cost>],
+    row: &mut [u8],
+    scratch: &mut [u8],
+)
     requires some { ⌜ 0 < length (now names) ⌝ }
     requires parts { ⌜ length (now names) ≡ M·Measure .count (now measure) ⌝ }
     requires few { ⌜ length (now names) ≤ 80 ⌝ }

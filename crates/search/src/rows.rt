@@ -38,7 +38,12 @@ fn price_of<M: Measure>(measure: &M, row: &[u8]) -> M::Cost
 }
 
 // The cost of the group u alone.
-pub(crate) fn alone_cost<M: Measure>(measure: &M, names: &[u8], u: u8, scratch: &mut [u8]) -> M::Cost
+pub(crate) fn alone_cost<M: Measure>(
+    measure: &M,
+    names: &[u8],
+    u: u8,
+    scratch: &mut [u8],
+) -> M::Cost
     requires parts { ⌜ length (now names) ≡ M·Measure .count (now measure) ⌝ }
     requires scratch { ⌜ length (now scratch) ≡ length (now names) ⌝ }
     ensures answer { λ r. ⌜ r ≡ M·Measure .price (now (measure .entry)) (alone (now (names .entry)) u) ⌝ }
@@ -48,7 +53,13 @@ pub(crate) fn alone_cost<M: Measure>(measure: &M, names: &[u8], u: u8, scratch: 
 }
 
 // The cost of the row's parts with the group u.
-pub(crate) fn added_cost<M: Measure>(measure: &M, names: &[u8], row: &[u8], u: u8, scratch: &mut [u8]) -> M::Cost
+pub(crate) fn added_cost<M: Measure>(
+    measure: &M,
+    names: &[u8],
+    row: &[u8],
+    u: u8,
+    scratch: &mut [u8],
+) -> M::Cost
     requires parts { ⌜ length (now names) ≡ M·Measure .count (now measure) ⌝ }
     requires row { ⌜ length (now row) ≡ length (now names) ⌝ }
     requires scratch { ⌜ length (now scratch) ≡ length (now names) ⌝ }

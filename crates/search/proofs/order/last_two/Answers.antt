@@ -15,11 +15,12 @@ loop-i-holds g c =
 pub loop-i-again : need.loop-i-again
 loop-i-again g c =
     let k = g .Cost·CostKind in
-    let row′ = c .copy-from-slice .ensures .after ∙ c .mark-added .ensures .after in
-    (along-more (k .amount) (k .plus) (k .le) (g .M·Measure .price (c .args .measure .now)) (c .args .more) (c .args .names .now)
-    (c .loop-i .-i) (c .loop-i .row) (c .copy-from-slice .last .self) (c .loop-i .t) (c .loop-i .u) (c .next-v .result)
-    (c .loop-i .inv .0) (c .loop-i-test .taken) (c .next-v .ensures .answer) row′,
-    ap (λ (r : List ℕ). marks r 0) row′ ∙ added-keeps (c .args .names .now) (c .loop-i .row) (c .next-v .result) (omega arith) (c .pre .some) (c .loop-i .inv .1))
+    let row′ = c .copy-from-slice .ensures .after ∙ c .mark-added .ensures .after in (
+      along-more (k .amount) (k .plus) (k .le) (g .M·Measure .price (c .args .measure .now)) (c .args .more) (c .args .names .now)
+          (c .loop-i .-i) (c .loop-i .row) (c .copy-from-slice .last .self) (c .loop-i .t) (c .loop-i .u) (c .next-v .result)
+          (c .loop-i .inv .0) (c .loop-i-test .taken) (c .next-v .ensures .answer) row′,
+      ap (λ (r : List ℕ). marks r 0) row′ ∙ added-keeps (c .args .names .now) (c .loop-i .row) (c .next-v .result) (omega arith) (c .pre .some) (c .loop-i .inv .1),
+    )
 
 pub returns : need.returns
 returns g c =

@@ -37,16 +37,16 @@ loop-p-again g c =
       | then-is-left·then-is-beaten w ↦
           let with″ = w .added-cost-with-name .ensures .answer in
           let wins = scan-test (k .amount) (k .plus) (k .le) price names row i best with′ _ _ _ s with″
-              (w .own-cost-own-best .ensures .answer)
-              (w .own-cost-own-name .ensures .answer)
-              _ (w .is-beaten .ensures .answer) in
+          (w .own-cost-own-best .ensures .answer)
+          (w .own-cost-own-name .ensures .answer)
+          _ (w .is-beaten .ensures .answer) in
           rw (w .best-is, w .with-best-is) (scan-takes (k .amount) (k .plus) (k .le) price names row laws i best with′ _ s (sym (w .if-is-left .ensures tt .answer)) (wins ∙ w .if-is-beaten .taken) with″)
       | then-is-left·else-is-beaten w ↦
           let with″ = w .added-cost-with-name .ensures .answer in
           let wins = scan-test (k .amount) (k .plus) (k .le) price names row i best with′ _ _ _ s with″
-              (w .own-cost-own-best .ensures .answer)
-              (w .own-cost-own-name .ensures .answer)
-              _ (w .is-beaten .ensures .answer) in
+          (w .own-cost-own-best .ensures .answer)
+          (w .own-cost-own-name .ensures .answer)
+          _ (w .is-beaten .ensures .answer) in
           rw (w .best-is, w .with-best-is) (scan-keeps (k .amount) (k .plus) (k .le) price names row laws i best with′ s (wins ∙ w .if-is-beaten .left))
       | else-is-left w ↦ rw (w .best-is, w .with-best-is) (scan-passes (k .amount) (k .plus) (k .le) price names row laws i best with′ s (sym (w .if-is-left .ensures tt .answer)))
     ]

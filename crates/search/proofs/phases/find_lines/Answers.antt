@@ -3,9 +3,9 @@ use mathlib.Core.Path.{_≡_, refl, _∙_}
 use mathlib.Core.Logic.{inl, inr}
 use Prim.Native.Nat.{ℕ, _≤_}
 use lib.ListN.{length}
-use Rattle.std.proofs.shelf.Tests.{eq-eqb, cases-eq}
+use Rattle.std.proofs.shelf.Tests.{cases-eq}
 use Rattle.search.proofs.Listed.{listed-none, listed-ends, listed-more, listed-all}
-use Rattle.search.proofs.Names.{first-name, stands-below}
+use Rattle.search.proofs.Names.{standing-part, zero-stands}
 use Rattle.search.proofs.Slots.{groups-low}
 use Rattle.search.proofs.phases.find_lines.Needs as need
 
@@ -26,7 +26,7 @@ own-costs-requires g c κs =
       parts = f .grouped .size ∙ c .pre .parts;
       few = omega (arith, f .grouped .size);
       start = omega (arith, c .pre .groups, c .pre .few, groups-low (c .args .names .now));
-      first = eq-eqb _ _ (first-name (f .grouped));
+      first = zero-stands (f .grouped);
       scratch = omega (arith, f .grouped .size);
       room = omega (arith, f .standing, f .long);
     }
@@ -41,7 +41,7 @@ last-two-t-requires g c κs =
       row = omega (arith, f .grouped .size);
       scratch = omega (arith, f .grouped .size);
       start = omega (arith, c .pre .groups, c .pre .few, groups-low (c .args .names .now));
-      first = eq-eqb _ _ (first-name (f .grouped));
+      first = zero-stands (f .grouped);
       room = omega (arith, f .standing, f .long);
       own = c .own-costs .ensures .own;
     }
@@ -52,12 +52,12 @@ own-cost-cost-requires g c κs =
     let f = c .loop-i .inv in
     let two = c .last-two-t .ensures in
     let ends = listed-ends (k .amount) (k .plus) (k .le) (g .M·Measure .price (c .args .measure .now)) (length (c .args .names .now)) (c .args .count) (c .args .names .now) (c .args .lines .now)
-        (g .Cost·CostKind·met .lawful) (c .loop-i .i) (c .loop-i .names) (c .loop-i .lines) f (c .loop-i-test .taken) (c .last-two-t .result .0) (c .last-two-t .result .1) (two .before) (two .last) in
+    (g .Cost·CostKind·met .lawful) (c .loop-i .i) (c .loop-i .names) (c .loop-i .lines) f (c .loop-i-test .taken) (c .last-two-t .result .0) (c .last-two-t .result .1) (two .before) (two .last) in
     record {
       few = omega (arith, f .grouped .size);
       start = omega (arith, c .pre .groups, c .pre .few, groups-low (c .args .names .now));
-      first = eq-eqb _ _ (first-name (f .grouped));
-      within = (positive (c .last-two-t .result .1) (ends .3), stands-below (f .grouped) _ (ends .1));
+      first = zero-stands (f .grouped);
+      within = (positive (c .last-two-t .result .1) (ends .3), standing-part (f .grouped) _ (ends .1));
       stands = ends .1;
       room = omega (arith, f .standing, f .long);
       own = c .own-costs .ensures .own;

@@ -4,7 +4,7 @@ use Prim.Native.Nat.{ℕ}
 use lib.ListN.{getD}
 use Rattle.cost.specs.declared.line.Line.{Line}
 use Rattle.search.proofs.Slots.{between-below}
-use Rattle.search.proofs.order.own_cost.Needs as need
+use Rattle.search.proofs.own.own_cost.Needs as need
 
 pub cost-at-requires : need.cost-at-requires
 cost-at-requires g c κs =

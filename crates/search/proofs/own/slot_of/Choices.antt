@@ -3,7 +3,7 @@ use mathlib.Core.Bool.{cond}
 use Prim.Native.Nat.{ℕ, _+_, _≤_}
 use Rattle.partition.specs.Names.{stands}
 use Rattle.search.specs.Slots.{between}
-use Rattle.search.proofs.order.slot_of.Given as given
+use Rattle.search.proofs.own.slot_of.Given as given
 
 abbrev pub Inv-loop-q : given.InvT-loop-q
 Inv-loop-q l =

@@ -1,4 +1,4 @@
--- Lists of names by tests: what is among them, and how many. Assumes nothing.
+-- What is among the names that pass a test. Assumes nothing.
 use mathlib.Core.Path.{_≡_, refl, sym, ap, _∙_}
 use mathlib.Core.Bool.{Bool, true, false, _||_, _&&_, cond}
 use mathlib.Core.List.{List, [], _∷_}
@@ -22,10 +22,6 @@ same-at q p x = elim (cases-eq p x) [ inl e ↦ ap (λ y. q y && eqb p x) (sym e
 among-cell : (b : Bool) (p x : ℕ) (ys : List ℕ) → among (cond b (x ∷ ys) ys) p ≡ ((b && eqb p x) || among ys p)
 among-cell true p x ys = refl
 among-cell false p x ys = refl
-
-length-cell : (b : Bool) (x : ℕ) (ys : List ℕ) → length (cond b (x ∷ ys) ys) ≡ length ys + cond b 1 0
-length-cell true x ys = omega arith
-length-cell false x ys = omega arith
 
 pub among-kept : (q : ℕ → Bool) (xs : List ℕ) (p : ℕ) → among (kept-by q xs) p ≡ (q p && among xs p)
 among-kept q [] p = and-none (q p)
@@ -51,32 +47,6 @@ counting-among p a (suc k) h =
     elim (or-cases (eqb p a) _ h) [
       | inl e ↦ omega (arith, eqb-true p a e)
       | inr e ↦ omega (arith, counting-among p (a + 1) k e)
-    ]
-
-pub kept-same : (q r : ℕ → Bool) (a k : ℕ) → ((p : ℕ) → a ≤ p → q p ≡ r p) → kept-by q (counting a k) ≡ kept-by r (counting a k)
-kept-same q r a zero h = refl
-kept-same q r a (suc k) h =
-    let e = h a (omega arith) in
-    let ih = kept-same q r (a + 1) k (λ p l. h p (omega arith)) in
-    cc
-
--- one name fewer passes
-pub kept-less : (q r : ℕ → Bool) (v : ℕ) → q v ≡ true → r v ≡ false → ((p : ℕ) → (p ≡ v → ⊥) → q p ≡ r p) →
-    (a k : ℕ) → a ≤ v → v < a + k → length (kept-by q (counting a k)) ≡ suc (length (kept-by r (counting a k)))
-kept-less q r v qv rv h a zero l m = absurd (omega arith)
-kept-less q r v qv rv h a (suc k) l m =
-    elim (cases-eq a v) [
-      | inl e ↦
-          let rest = kept-same q r (a + 1) k (λ p j. h p (λ i. omega arith)) in
-          let qa : q a ≡ true = ap q e ∙ qv in
-          let ra : r a ≡ false = ap r e ∙ rv in
-          cc
-      | inr e ↦
-          let ih = kept-less q r v qv rv h (a + 1) k (omega arith) (omega arith) in
-          let c = length-cell (q a) a (kept-by q (counting (a + 1) k)) in
-          let d = length-cell (r a) a (kept-by r (counting (a + 1) k)) in
-          let same : cond {A = ℕ} (q a) 1 0 ≡ cond (r a) 1 0 = ap (λ b. cond b 1 0) (h a e) in
-          omega arith
     ]
 
 pub none-among : (xs : List ℕ) (p : ℕ) → length xs ≡ 0 → among xs p ≡ false

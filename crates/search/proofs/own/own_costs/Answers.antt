@@ -4,8 +4,8 @@ use Prim.Native.Nat.{_<_}
 use Rattle.std.proofs.shelf.Tests.{eq-eqb, ne-eqb}
 use Rattle.search.proofs.Owned.{owned-none, owned-passes, owned-writes, owned-all}
 use Rattle.search.proofs.Slots.{between-below}
-use Rattle.search.proofs.order.own_costs.Needs as need
-use Rattle.search.proofs.order.own_costs.Needs.{then-names-p, else-names-p}
+use Rattle.search.proofs.own.own_costs.Needs as need
+use Rattle.search.proofs.own.own_costs.Needs.{then-names-p, else-names-p}
 
 pub loop-p-holds : need.loop-p-holds
 loop-p-holds g c = owned-none (g .M·Measure .price (c .args .measure .now)) (c .args .names .now) (c .args .start) (c .args .lines .now)
