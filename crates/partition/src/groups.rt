@@ -17,6 +17,7 @@ impl Table {
         ensures full { λ r. ⌜ length (r .records) ≡ 80 ⌝ }
         ensures len { λ r. ⌜ r .len ≡ len ⌝ }
         ensures answer { λ r. ⌜ names-of r ≡ singles len ⌝ }
+        ensures parts { λ r. ⌜ length (names-of r) ≡ len ⌝ }
         ensures named { λ r. ⌜ Named (names-of r) ⌝ }
         ensures sized { λ r. ⌜ Sized r ⌝ }
         ensures two { λ r. ⌜ 2 ≤ groups (names-of r) ⌝ }
@@ -78,6 +79,7 @@ impl Table {
         ensures full { λ _. ⌜ length (now (self .exit) .records) ≡ 80 ⌝ }
         ensures len { λ _. ⌜ now (self .exit) .len ≡ now (self .entry) .len ⌝ }
         ensures after { λ _. ⌜ names-of (now (self .exit)) ≡ joined (x .name) (y .name) (names-of (now (self .entry))) ⌝ }
+        ensures parts { λ _. ⌜ length (names-of (now (self .exit))) ≡ length (names-of (now (self .entry))) ⌝ }
         ensures named { λ _. ⌜ Named (names-of (now (self .exit))) ⌝ }
         ensures sized { λ _. ⌜ Sized (now (self .exit)) ⌝ }
         ensures fewer { λ _. ⌜ groups (names-of (now (self .entry))) ≡ suc (groups (names-of (now (self .exit)))) ⌝ }
@@ -94,6 +96,7 @@ impl Table {
         ensures full { λ _. ⌜ length (now (self .exit) .records) ≡ 80 ⌝ }
         ensures len { λ _. ⌜ now (self .exit) .len ≡ now (self .entry) .len ⌝ }
         ensures after { λ _. ⌜ names-of (now (self .exit)) ≡ single g (names-of (now (self .entry))) ⌝ }
+        ensures parts { λ _. ⌜ length (names-of (now (self .exit))) ≡ length (names-of (now (self .entry))) ⌝ }
         ensures named { λ _. ⌜ Named (names-of (now (self .exit))) ⌝ }
         ensures sized { λ _. ⌜ Sized (now (self .exit)) ⌝ }
         ensures more { λ _. ⌜ groups (names-of (now (self .entry))) ≤ groups (names-of (now (self .exit))) ⌝ }

@@ -17,7 +17,7 @@ use measure::limits::count_fits;
 impl Partition {
     // Each of n parts a group; none for a number of parts that no figure has.
     pub fn singles(n: usize) -> Option<Partition>
-        ensures cases { λ r. ⌜ Cases r (count-fits n ≡ false) (λ p. (count-fits n ≡ true) × (names-of (p .table) ≡ singles n)) ⌝ }
+        ensures cases { λ r. ⌜ Cases r (count-fits n ≡ false) (λ p. (count-fits n ≡ true) × (names-of (p .table) ≡ singles n) × (length (names-of (p .table)) ≡ n)) ⌝ }
     {
         if !count_fits(n) {
             return None;
@@ -69,6 +69,7 @@ impl Partition {
     pub fn join(&mut self, a: usize, b: usize) -> Result<bool, GroupFault>
         ensures answer { λ r. ⌜ r ≡ join-answer (names-of (now (self .entry) .table)) a b ⌝ }
         ensures after { λ _. ⌜ names-of (now (self .exit) .table) ≡ join-after (names-of (now (self .entry) .table)) a b ⌝ }
+        ensures parts { λ _. ⌜ length (names-of (now (self .exit) .table)) ≡ length (names-of (now (self .entry) .table)) ⌝ }
         ensures same { λ r. ⌜ ((r ≡ Ok true → ⊥) → now (self .exit) ≡ now (self .entry)) ⌝ }
     {
         let answer = self.judge(a, b);
@@ -84,6 +85,7 @@ impl Partition {
     pub fn single(&mut self, a: usize) -> Result<usize, GroupFault>
         ensures answer { λ r. ⌜ r ≡ single-answer (names-of (now (self .entry) .table)) a ⌝ }
         ensures after { λ _. ⌜ names-of (now (self .exit) .table) ≡ single-after (names-of (now (self .entry) .table)) a ⌝ }
+        ensures parts { λ _. ⌜ length (names-of (now (self .exit) .table)) ≡ length (names-of (now (self .entry) .table)) ⌝ }
         ensures same { λ r. ⌜ (isOk r ≡ false → now (self .exit) ≡ now (self .entry)) ⌝ }
     {
         let g = self.name(a)?;

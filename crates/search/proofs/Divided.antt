@@ -46,7 +46,7 @@ module _ (names row : List ℕ) where
   pub divides-none : ((p q : ℕ) → p < length names → q < length names → getD names p 0 ≡ getD names q 0 → marks row p ≡ marks row q) → divides names row ≡ false
   divides-none same =
       any-none _ 0 (length names) (λ p _ hp. any-none (cuts-between names row p) 0 (length names) (λ q _ hq.
-        elim (cases-bool (eqb (getD names p 0) (getD names q 0))) [
-          | inl e ↦ and-right _ _ (not-between _ _ (same p q (omega arith) (omega arith) (eqb-true _ _ e)))
-          | inr e ↦ and-left _ _ e
-        ]))
+      elim (cases-bool (eqb (getD names p 0) (getD names q 0))) [
+        | inl e ↦ and-right _ _ (not-between _ _ (same p q (omega arith) (omega arith) (eqb-true _ _ e)))
+        | inr e ↦ and-left _ _ e
+      ]))

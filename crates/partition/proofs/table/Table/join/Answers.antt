@@ -5,7 +5,7 @@ use native.Mathlib.Omega.{arith}
 use lib.ListN.{length}
 use Rattle.partition.specs.Names.{Named, groups, names-of}
 use Rattle.partition.specs.Records.{merged}
-use Rattle.partition.proofs.Joins.{joined-groups, joined-named}
+use Rattle.partition.proofs.Joins.{joined-groups, joined-named, length-joined}
 use Rattle.partition.proofs.Kept.{merged-names, merged-sized, new-length}
 use Rattle.partition.proofs.Members.{members-two}
 use Rattle.partition.proofs.Rewrites.{names-length}
@@ -33,6 +33,7 @@ returns c =
       full = new-length (λ _. merged x y) old new within len records ∙ c .pre .full;
       len = len;
       after = names;
+      parts = ap length names ∙ length-joined (x .name) (y .name) (names-of old);
       named = subst Named (sym names) (joined-named (names-of old) (c .pre .named) (x .name) (y .name) (c .pre .stand .0) (c .pre .stand .1) apart);
       sized = merged-sized x y apart old new within len records (c .pre .sized) (c .pre .sizes .0) (c .pre .sizes .1);
       fewer =

@@ -3,6 +3,7 @@ use mathlib.Core.List.{List}
 use Prim.Native.Nat.{ℕ, _≤_, _<_}
 use native.Mathlib.Omega.{arith}
 use lib.ListN.{length, getD, replicate}
+use Rattle.std.proofs.shelf.Counted.{length-counting}
 use Rattle.std.proofs.shelf.Lists.{getD-replicate, length-replicate}
 use Rattle.partition.specs.Names.{Named, groups}
 use Rattle.partition.specs.declared.table.Record.{Record}
@@ -28,6 +29,7 @@ returns c =
       full = new-length (parted 0) old new within len records ∙ long;
       len = len;
       answer = names;
+      parts = ap length names ∙ length-counting 0 n;
       named = subst Named (sym names) (singles-named n);
       sized = fresh-sized old new within len records one;
       two = subst (λ (ns : List ℕ). 2 ≤ groups ns) (sym names) (omega (arith, singles-groups n));

@@ -1,0 +1,4 @@
+pub mod Numbers
+pub mod Replies
+pub mod Runs
+pub mod Standing
