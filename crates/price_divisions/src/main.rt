@@ -79,7 +79,7 @@ fn break_figure(rt: &LibcRuntime, figure: &Nets) -> io::Result<()> {
         Ok(found) => {
             println!(
                 rt,
-                "Every division that puts the two parts of a line on different sheets costs at least:"
+                "A division costs at least what the first line says whose two parts it puts on different sheets:"
             )?;
             for (i, line) in lines.iter().enumerate() {
                 print_line(rt, i, line)?;
