@@ -6,7 +6,7 @@ ghost use Rattle.cost.specs.Amounts.{capped, whole-amount};
 use crate::kind::CostKind;
 
 // The highest whole cost.
-const HIGHEST: u64 = 99_999_999_999;
+pub const HIGHEST: u64 = 99_999_999_999;
 
 // A record of more than the highest cost counts as the highest.
 #[derive(Clone, Copy)]

@@ -2,7 +2,7 @@
 use mathlib.Core.Path.{_≡_, refl}
 use mathlib.Core.Bool.{true}
 use mathlib.Core.List.{List, [], _∷_}
-use Prim.Native.Nat.{ℕ, suc, _≤_, _<_}
+use Prim.Native.Nat.{ℕ, zero, suc, _≤_, _<_}
 use native.Mathlib.Omega.{arith}
 use lib.Dec.{ltb}
 use lib.ListN.{length, getD}
@@ -25,3 +25,15 @@ asked-row f n row r =
     let all = all-marks row (λ k l. r .bits k (omega (arith, r .long))) in
     let long = r .long in
     grind (arith, tells, all, long)
+
+leading-bits : (row : List ℕ) (k : ℕ) → k < leading-marks row → getD row k 0 ≤ 1
+leading-bits [] k h = absurd (omega arith)
+leading-bits (x ∷ row) zero h = grind (arith, tells, h)
+leading-bits (x ∷ row) (suc k) h = let rest : k < leading-marks row = grind (arith, tells, h) in leading-bits row k rest
+
+-- and what is not refused is a row of marks
+pub row-asked : {X : Type 0} (f : List ℕ → X) (x : X) (n : ℕ) (row : List ℕ) → Ok x ≡ asked n f row → Row n row
+row-asked f x n row answered =
+    let long : length row ≡ n = grind (arith, tells, answered) in
+    let marked : n ≤ leading-marks row = grind (arith, tells, answered) in
+    record { long = long; bits = λ k below. leading-bits row k (omega arith) }

@@ -1,0 +1,3 @@
+pub mod Connectivity
+pub mod Making
+pub mod Rank

@@ -1,0 +1,4 @@
+pub mod Faults
+pub mod Field
+pub mod Number
+pub mod Row
