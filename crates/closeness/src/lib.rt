@@ -1,4 +1,6 @@
 // Closeness: the graph cut. Every pair of parts that a side takes apart costs its entry of a table.
+#![tactic(auto)]
+
 pub mod closeness;
 pub mod cut;
 pub mod making;

@@ -1,4 +1,6 @@
 // Measures made of measures: sums, ties and folds, each again a measure.
+#![tactic(auto)]
+
 pub mod boxes;
 pub mod fold;
 pub mod sum;

@@ -1,4 +1,6 @@
 // Tests at the edges of what is accepted, each limit met and passed by one, and on figures worked by hand. A crate of its own, since a crate with tests is proved twice.
+#![tactic(auto)]
+
 #[cfg(test)]
 mod costs;
 #[cfg(test)]

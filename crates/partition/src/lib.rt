@@ -1,4 +1,6 @@
 // How a figure's parts are grouped: for each part the name of its group, which is the group's lowest part, and the group's size.
+#![tactic(auto)]
+
 pub mod fault;
 mod groups;
 pub mod partition;

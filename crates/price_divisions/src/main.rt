@@ -1,4 +1,6 @@
 // Prices some divisions of one figure, what the connectors between the two sheets cost, and finds its cheapest.
+#![tactic(auto)]
+
 use cost::line::Line;
 use cost::whole::Whole;
 use measure::measure::Measure;

@@ -1,4 +1,6 @@
 // Reading a figure file into lent tables.
+#![tactic(auto)]
+
 mod cut;
 mod fields;
 mod lay;

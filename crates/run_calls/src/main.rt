@@ -1,4 +1,6 @@
 // Carries out a list of calls on a plan of one figure, and prints each call, its answer, and what a split finds.
+#![tactic(auto)]
+
 use cost::line::Line;
 use cost::whole::Whole;
 use measure::measure::Measure;
