@@ -7,11 +7,11 @@ use Rattle.reader.proofs.fields.read_numbers.Goals as goal
 pub loop-left-init : goal.loop-left-init
 loop-left-init c = record { vs = []; so_far = refl; goes_on = refl; kept = refl; whole = c.requires.whole; few = omega arith }
 
-pub split-at-requires : goal.split-at-requires
-split-at-requires c = whole_first (length c.loop-left.left.now) c.args.width (omega (arith, false-eqb _ 0 c.loop-left-test.ensures)) c.loop-left.invariant.whole
+pub split_at-requires : goal.split_at-requires
+split_at-requires c = whole_first (length c.loop-left.left.now) c.args.width (omega (arith, false-eqb _ 0 c.loop-left-test.ensures)) c.loop-left.invariant.whole
 
-pub returns-in-err-number : goal.returns-in-err-number
-returns-in-err-number c =
+pub returns-in_err-number : goal.returns-in_err-number
+returns-in_err-number c =
     let p = err_from_is_err_and c.from-residual.result c.from-residual.ensures.1 in
     let some : 0 < length c.loop-left.left.now = omega (arith, false-eqb _ 0 c.loop-left-test.ensures) in
     record { answer = rw (p.1, p.2) (fielded_stops _ _ _ _ _ _ _ _ _ c.loop-left.invariant c.requires.wide some c.split-at.ensures.front c.split-at.ensures.back _ c.in-err-number.ensures.answer) }

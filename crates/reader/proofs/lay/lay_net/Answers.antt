@@ -4,8 +4,8 @@ use Rattle.nets.specs.declared.net.Net.{Net}
 use Rattle.reader.specs.Answers.{set_from}
 use Rattle.reader.proofs.lay.lay_net.Goals as goal
 
-pub lay-pins-requires : goal.lay-pins-requires
-lay-pins-requires c =
+pub lay_pins-requires : goal.lay_pins-requires
+lay_pins-requires c =
     let vs = c.args.numbers.now in
     let e = take_rest vs 1 in
     record {

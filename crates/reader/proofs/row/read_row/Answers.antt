@@ -4,8 +4,8 @@ use Rattle.std.proofs.lemmas.Result.{err_from_is_err_and}
 use Rattle.reader.proofs.Rowed.{kept_met, kept_not_met}
 use Rattle.reader.proofs.row.read_row.Goals as goal
 
-pub returns-in-err-check-numbers : goal.returns-in-err-check-numbers
-returns-in-err-check-numbers c =
+pub returns-in_err-check_numbers : goal.returns-in_err-check-numbers
+returns-in_err-check_numbers c =
     let p = err_from_is_err_and c.from-residual-in-err-check-numbers.result c.from-residual-in-err-check-numbers.ensures.1 in
     record {
       answer =

@@ -5,8 +5,8 @@ use Rattle.figure.specs.Tables.{tables}
 use Rattle.reader.proofs.Walks.{walked_stopped, walked_on}
 use Rattle.reader.proofs.walk.walk.Goals as goal
 
-pub returns-in-err-stage : goal.returns-in-err-stage
-returns-in-err-stage c =
+pub returns-in_err-stage : goal.returns-in_err-stage
+returns-in_err-stage c =
     let p = err_from_is_err_and c.from-residual-in-err-stage.result c.from-residual-in-err-stage.ensures.1 in
     let q = MatchOption-at_some _ _ _ c.in-Some.is c.in-ok-text.ensures.answer in
     let s =

@@ -1,7 +1,7 @@
 use Rattle.std.proofs.Common.{◌≡◌, sym, ◌∙◌, arith}
 use Rattle.search.proofs.Scan.{scan_all, scan_first, scan_passes, scan_keeps, scan_takes, scan_only, scan_test}
 use Rattle.search.proofs.order.next.Goals as goal
-use Rattle.search.proofs.order.next.Goals.{then-is-left+then-is-beaten, then-is-left+else-is-beaten, else-is-left}
+use Rattle.search.proofs.order.next.Goals.{then-is_left+then-is_beaten, then-is_left+else-is_beaten, else-is_left}
 
 pub returns-then-first-left-names : goal.returns-then-first-left-names
 returns-then-first-left-names g c =
@@ -33,21 +33,21 @@ loop-p-preserved g c =
     let with' = c.loop-p.with-best in
     let s = c.loop-p.invariant in
     elim c.if-is-left.branch [
-      | then-is-left+then-is-beaten w ↦
+      | then-is_left+then-is_beaten w ↦
           let with'' = w.added-cost-with-name.ensures.answer in
           let wins = scan_test k.amount k.plus k.le price names row i best with' _ _ _ s with''
           w.own-cost-own-best.ensures.answer
           w.own-cost-own-name.ensures.answer
           _ w.is-beaten.ensures.answer in
           rw (w.best-is, w.with-best-is) (scan_takes k.amount k.plus k.le price names row laws i best with' _ s (sym w.if-is-left.ensures.answer) (wins ∙ w.if-is-beaten.true) with'')
-      | then-is-left+else-is-beaten w ↦
+      | then-is_left+else-is_beaten w ↦
           let with'' = w.added-cost-with-name.ensures.answer in
           let wins = scan_test k.amount k.plus k.le price names row i best with' _ _ _ s with''
           w.own-cost-own-best.ensures.answer
           w.own-cost-own-name.ensures.answer
           _ w.is-beaten.ensures.answer in
           rw (w.best-is, w.with-best-is) (scan_keeps k.amount k.plus k.le price names row laws i best with' s (wins ∙ w.if-is-beaten.false))
-      | else-is-left w ↦ rw (w.best-is, w.with-best-is) (scan_passes k.amount k.plus k.le price names row laws i best with' s (sym w.if-is-left.ensures.answer))
+      | else-is_left w ↦ rw (w.best-is, w.with-best-is) (scan_passes k.amount k.plus k.le price names row laws i best with' s (sym w.if-is-left.ensures.answer))
     ]
 
 pub returns : goal.returns

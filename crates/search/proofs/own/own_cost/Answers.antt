@@ -3,8 +3,8 @@ use Rattle.cost.specs.declared.line.Line.{Line}
 use Rattle.search.proofs.Slots.{between_below}
 use Rattle.search.proofs.own.own_cost.Goals as goal
 
-pub cost-at-requires : goal.cost-at-requires
-cost-at-requires g c =
+pub cost_at-requires : goal.cost_at-requires
+cost_at-requires g c =
     record { within = omega (arith, c.slot-of.ensures.answer, c.requires.room, between_below c.args.names.now c.args.p c.requires.within.0 c.requires.within.1 c.requires.first c.requires.stands) }
 
 pub returns : goal.returns

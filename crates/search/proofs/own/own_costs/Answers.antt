@@ -8,12 +8,12 @@ use Rattle.search.proofs.own.own_costs.Goals.{then-names-p, else-names-p}
 pub loop-p-init : goal.loop-p-init
 loop-p-init g c = owned_none (g.M.Measure.price c.args.measure.now) c.args.names.now c.args.start c.args.lines.now
 
-pub put-line-requires : goal.put-line-requires
-put-line-requires g c =
+pub put_line-requires : goal.put_line-requires
+put_line-requires g c =
     record { within = omega (arith, c.loop-p.invariant.at, c.requires.room, between_below c.args.names.now c.loop-p.p (omega arith) c.loop-p-test.true c.requires.first (eq-eqb _ _ (omega arith))) }
 
-pub overflow-add-slot : goal.overflow-add-slot
-overflow-add-slot g c =
+pub overflow_add-slot : goal.overflow_add-slot
+overflow_add-slot g c =
     omega (arith, c.loop-p.invariant.at, c.requires.room, between_below c.args.names.now c.loop-p.p (omega arith) c.loop-p-test.true c.requires.first (eq-eqb _ _ (omega arith)))
 
 pub loop-p-preserved : goal.loop-p-preserved

@@ -14,8 +14,8 @@ loop-i-init g c =
     listed_none k.amount k.plus k.le (g.M.Measure.price c.args.measure.now) (length c.args.names.now) c.args.count c.args.names.now c.args.lines.now
     (record { some = c.requires.some; size = refl; named = c.requires.named }) c.requires.groups
 
-pub own-costs-requires : goal.own-costs-requires
-own-costs-requires g c =
+pub own_costs-requires : goal.own_costs-requires
+own_costs-requires g c =
     let f = c.loop-i.invariant in
     record {
       some = omega (arith, f.grouped.some, f.grouped.size);
@@ -27,8 +27,8 @@ own-costs-requires g c =
       room = omega (arith, f.standing, f.long);
     }
 
-pub last-two-t-requires : goal.last-two-t-requires
-last-two-t-requires g c =
+pub last_two-t-requires : goal.last_two-t-requires
+last_two-t-requires g c =
     let f = c.loop-i.invariant in
     record {
       some = omega (arith, f.grouped.some, f.grouped.size);
@@ -42,8 +42,8 @@ last-two-t-requires g c =
       own = c.own-costs.ensures.own;
     }
 
-pub own-cost-cost-requires : goal.own-cost-cost-requires
-own-cost-cost-requires g c =
+pub own_cost-cost-requires : goal.own_cost-cost-requires
+own_cost-cost-requires g c =
     let k = g.Cost.CostKind in
     let f = c.loop-i.invariant in
     let two = c.last-two-t.ensures in

@@ -7,8 +7,8 @@ use Rattle.partition.proofs.Members.{members_two}
 use Rattle.partition.proofs.Rewrites.{names_length}
 use Rattle.partition.proofs.table.Table.join.Goals as goal
 
-pub write-joined-requires : goal.write-joined-requires
-write-joined-requires c =
+pub write_joined-requires : goal.write_joined-requires
+write_joined-requires c =
     let table = c.args.self.now in
     let long = names_length table (omega arith) in
     let two = members_two c.args.x.name c.args.y.name c.requires.apart (names_of table) in
@@ -19,9 +19,9 @@ returns c =
     let x = c.args.x in
     let y = c.args.y in
     let old = c.args.self.now in
-    let new = c.write-joined.new.self in
-    let len = c.write-joined.ensures.len in
-    let records = c.write-joined.ensures.after in
+    let new = c.write_joined.new.self in
+    let len = c.write_joined.ensures.len in
+    let records = c.write_joined.ensures.after in
     let apart = c.requires.apart in
     let within : old.len ≤ length old.records = omega arith in
     let names = merged_names x y apart old new within len records in

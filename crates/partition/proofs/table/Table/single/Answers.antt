@@ -9,9 +9,9 @@ pub returns : goal.returns
 returns c =
     let g = c.args.g in
     let old = c.args.self.now in
-    let new = c.write-single.new.self in
-    let len = c.write-single.ensures.len in
-    let records = c.write-single.ensures.after in
+    let new = c.write_single.new.self in
+    let len = c.write_single.ensures.len in
+    let records = c.write_single.ensures.after in
     let within : old.len ≤ length old.records = omega arith in
     let names = parted_names g old new within len records in
     record {

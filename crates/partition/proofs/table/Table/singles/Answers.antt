@@ -14,9 +14,9 @@ returns c =
     let n = c.args.len in
     let all : Record = record { name = 0; size = 1 } in
     let old : Table = record { records = replicate 80 all; len = n } in
-    let new = c.write-single.new.self in
-    let len = c.write-single.ensures.len in
-    let records = c.write-single.ensures.after in
+    let new = c.write_single.new.self in
+    let len = c.write_single.ensures.len in
+    let records = c.write_single.ensures.after in
     let long : length old.records ≡ 80 = length-replicate 80 all in
     let within : n ≤ length old.records = omega arith in
     let one : (p : ℕ) (d : Record) → p < n → (get_or old.records p d).name ≡ 0 = λ p d l. ap (λ r. r.name) (get_or-replicate 80 p all d (omega arith)) in
