@@ -6,12 +6,12 @@ use Rattle.plan.proofs.run.carry.Goals as goal
 
 pub loop-step-init : goal.loop-step-init
 loop-step-init g c =
-    let k = g.Cost.CostKind in
+    let k = g.M.Cost.CostKind in
     carried_none k.amount k.plus k.le g.M.Measure.count g.M.Measure.price (λ p. p.measure) (λ p. names_of p.groups.table) c.args.plan.now c.args.steps.now
 
 pub loop-step-preserved : goal.loop-step-preserved
 loop-step-preserved g c =
-    let k = g.Cost.CostKind in
+    let k = g.M.Cost.CostKind in
     let did = c.one.ensures in
     let item = get_or c.loop-step.steps c.loop-step.step-index c.step-item.result in
     carried_more k.amount k.plus k.le g.M.Measure.count g.M.Measure.price (λ p. p.measure) (λ p. names_of p.groups.table) c.args.plan.now c.args.steps.now
@@ -20,7 +20,7 @@ loop-step-preserved g c =
 
 pub returns : goal.returns
 returns g c =
-    let k = g.Cost.CostKind in
+    let k = g.M.Cost.CostKind in
     let f = c.loop-step.invariant in
     let all = stood_all k.amount k.plus k.le g.M.Measure.count g.M.Measure.price (λ p. p.measure) (λ p. names_of p.groups.table) c.args.plan.now c.args.steps.now c.loop-step.step-index c.loop-step-test.false in
     record {

@@ -9,7 +9,7 @@ use Rattle.plan.proofs.run.run.Goals as goal
 
 pub returns : goal.returns
 returns g c =
-    let k = g.Cost.CostKind in
+    let k = g.M.Cost.CostKind in
     let m = c.args.measure in
     let n = g.M.Measure.count m in
     let price = g.M.Measure.price m in

@@ -16,15 +16,15 @@ accepted r s e = cc
 
 pub returns : goal.returns
 returns g c =
-    let k = g.Cost.CostKind in
+    let k = g.M.Cost.CostKind in
     let m = c.args.plan.now.measure in
     let n = g.M.Measure.count m in
     let price = g.M.Measure.price m in
     let names = standing_of n (names_of c.args.plan.now.groups.table) in
     let row = c.args.row.now in
     let lines = c.args.lines.now in
-    let er = c.as-mut-slice-marks.ensures.value in
-    let el = c.as-mut-slice-room.ensures.value in
+    let er = c.as_mut_slice-marks.ensures.value in
+    let el = c.as_mut_slice-room.ensures.value in
     let e = c.split.ensures in
     let new_row = with_items_is row c.split.new.row (omega arith) in
     let new-lines = with_items_is lines c.split.new.lines (omega arith) in

@@ -14,13 +14,13 @@ pub returns-in_err-number : goal.returns-in_err-number
 returns-in_err-number c =
     let p = err_from_is_err_and c.from-residual.result c.from-residual.ensures.1 in
     let some : 0 < length c.loop-left.left.now = omega (arith, false-eqb _ 0 c.loop-left-test.ensures) in
-    record { answer = rw (p.1, p.2) (fielded_stops _ _ _ _ _ _ _ _ _ c.loop-left.invariant c.requires.wide some c.split-at.ensures.front c.split-at.ensures.back _ c.in-err-number.ensures.answer) }
+    record { answer = rw (p.1, p.2) (fielded_stops _ _ _ _ _ _ _ _ _ c.loop-left.invariant c.requires.wide some c.split_at.ensures.front c.split_at.ensures.back _ c.in_err-number.ensures.answer) }
 
 pub loop-left-preserved : goal.loop-left-preserved
 loop-left-preserved c =
     let some : 0 < length c.loop-left.left.now = omega (arith, false-eqb _ 0 c.loop-left-test.ensures) in
     let le : c.args.width ≤ length c.loop-left.left.now = whole_first _ _ some c.loop-left.invariant.whole in
-    rw c.store.ensures.after (fielded_more _ _ _ _ _ _ _ _ _ c.loop-left.invariant c.requires.wide some c.split-at.ensures.front c.split-at.ensures.back _ le c.in-ok-number.ensures.answer)
+    rw c.store.ensures.after (fielded_more _ _ _ _ _ _ _ _ _ c.loop-left.invariant c.requires.wide some c.split_at.ensures.front c.split_at.ensures.back _ le c.in_ok-number.ensures.answer)
 
 pub returns : goal.returns
 returns c = record { answer = fielded_all _ _ _ _ _ _ _ c.loop-left.invariant (true-eqb _ 0 c.loop-left-test.ensures) }

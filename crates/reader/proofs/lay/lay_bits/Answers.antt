@@ -5,7 +5,7 @@ use Rattle.reader.proofs.lay.lay_bits.Goals as goal
 
 pub loop-j-preserved : goal.loop-j-preserved
 loop-j-preserved c =
-    ap (add_bits c.args.i (c.loop-j.j + 1) (drop (c.loop-j.j + 1) c.args.numbers.now)) c.add-bit.ensures.after
+    ap (add_bits c.args.i (c.loop-j.j + 1) (drop (c.loop-j.j + 1) c.args.numbers.now)) c.add_bit.ensures.after
     ∙ sym (at_drop_more (λ l. add_bits c.args.i c.loop-j.j l c.loop-j.columns) c.args.numbers.now c.loop-j.j 0 c.loop-j-test.true) ∙ c.loop-j.invariant
 
 pub returns : goal.returns

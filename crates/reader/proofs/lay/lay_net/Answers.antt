@@ -20,5 +20,5 @@ returns c =
     let e = take_rest vs 1 in
     record {
       nets = c.store.ensures.after ∙ ap (λ (l : List ℕ). set c.args.nets.now c.args.header.nets (record { weight = get_or vs 0 0; first = c.args.header.pins; count = length l })) e;
-      pins = c.lay-pins.ensures.after ∙ ap (λ (l : List ℕ). set_from c.args.header.pins l c.args.pins.now) e;
+      pins = c.lay_pins.ensures.after ∙ ap (λ (l : List ℕ). set_from c.args.header.pins l c.args.pins.now) e;
     }

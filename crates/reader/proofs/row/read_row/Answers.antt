@@ -4,15 +4,15 @@ use Rattle.std.proofs.lemmas.Result.{err_from_is_err_and}
 use Rattle.reader.proofs.Rowed.{kept_met, kept_not_met}
 use Rattle.reader.proofs.row.read_row.Goals as goal
 
-pub returns-in_err-check_numbers : goal.returns-in_err-check-numbers
+pub returns-in_err-check_numbers : goal.returns-in_err-check_numbers
 returns-in_err-check_numbers c =
-    let p = err_from_is_err_and c.from-residual-in-err-check-numbers.result c.from-residual-in-err-check-numbers.ensures.1 in
+    let p = err_from_is_err_and c.from_residual-in_err-check_numbers.result c.from_residual-in_err-check_numbers.ensures.1 in
     record {
       answer =
           rw (p.1, p.2)
-          (kept_not_met c.args.width c.args.largest c.args.row c.args.stage c.args.text.now c.in-ok-letter.letter c.in-ok-letter.rest.now c.in-ok-letter.ensures.answer
-          (sym c.if-not-is-in-place.ensures.answer) c.in-ok-count.count _ c.args.numbers.now c.read-numbers.new.numbers c.in-ok-count.ensures.answer
-          (omega (arith, c.if-count-gt-MOST.false, c.requires.room)) (sub-zero c.in-ok-count.count) _ c.in-err-check-numbers.ensures.answer);
+          (kept_not_met c.args.width c.args.largest c.args.row c.args.stage c.args.text.now c.in_ok-letter.letter c.in_ok-letter.rest.now c.in_ok-letter.ensures.answer
+          (sym c.if-not-is_in_place.ensures.answer) c.in_ok-count.count _ c.args.numbers.now c.read_numbers.new.numbers c.in_ok-count.ensures.answer
+          (omega (arith, c.if-count-gt-MOST.false, c.requires.room)) (sub-zero c.in_ok-count.count) _ c.in_err-check_numbers.ensures.answer);
       short = rw p.1 tt;
     }
 
@@ -20,8 +20,8 @@ pub returns : goal.returns
 returns c =
     record {
       answer =
-          kept_met c.args.width c.args.largest c.args.row c.args.stage c.args.text.now c.in-ok-letter.letter c.in-ok-letter.rest.now c.in-ok-letter.ensures.answer
-          (sym c.if-not-is-in-place.ensures.answer) c.in-ok-count.count _ c.args.numbers.now c.read-numbers.new.numbers c.in-ok-count.ensures.answer
-          (omega (arith, c.if-count-gt-MOST.false, c.requires.room)) (sub-zero c.in-ok-count.count) _ c.in-ok-check-numbers.ensures.answer;
+          kept_met c.args.width c.args.largest c.args.row c.args.stage c.args.text.now c.in_ok-letter.letter c.in_ok-letter.rest.now c.in_ok-letter.ensures.answer
+          (sym c.if-not-is_in_place.ensures.answer) c.in_ok-count.count _ c.args.numbers.now c.read_numbers.new.numbers c.in_ok-count.ensures.answer
+          (omega (arith, c.if-count-gt-MOST.false, c.requires.room)) (sub-zero c.in_ok-count.count) _ c.in_ok-check_numbers.ensures.answer;
       short = omega (arith, c.if-count-gt-MOST.false);
     }

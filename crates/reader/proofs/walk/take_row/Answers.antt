@@ -12,24 +12,24 @@ use Rattle.reader.proofs.walk.take_row.Goals as goal
 
 pub lay-requires : goal.lay-requires
 lay-requires c =
-    let vs = c.read-row.new.numbers in
-    let m = c.in-ok-letter.count in
+    let vs = c.read_row.new.numbers in
+    let m = c.in_ok-letter.count in
     let same : take (m - 0) vs ≡ take m vs = ap (λ k. take k vs) (sub-zero m) in
-    let a = (row_parts c.args.width c.args.largest c.args.row c.args.stage c.args.text.now _ c.requires.wide c.in-ok-letter.ensures.answer).1 in
+    let a = (row_parts c.args.width c.args.largest c.args.row c.args.stage c.args.text.now _ c.requires.wide c.in_ok-letter.ensures.answer).1 in
     record {
       few = c.requires.few;
-      short = omega (arith, ap length same, length-take-le m vs (omega (arith, c.in-ok-letter.ensures.short, c.read-row.auto.numbers, c.requires.room)), c.in-ok-letter.ensures.short);
-      fit = subst (FitAt c.args.stage c.in-ok-letter.letter) (sym same) (fits_at c.args.largest c.args.stage _ _ c.requires.top c.requires.few a);
+      short = omega (arith, ap length same, length-take-le m vs (omega (arith, c.in_ok-letter.ensures.short, c.read_row.auto.numbers, c.requires.room)), c.in_ok-letter.ensures.short);
+      fit = subst (FitAt c.args.stage c.in_ok-letter.letter) (sym same) (fits_at c.args.largest c.args.stage _ _ c.requires.top c.requires.few a);
     }
 
 pub returns : goal.returns
 returns c =
-    let vs = c.read-row.new.numbers in
-    let m = c.in-ok-letter.count in
-    let l = c.in-ok-letter.letter in
+    let vs = c.read_row.new.numbers in
+    let m = c.in_ok-letter.count in
+    let l = c.in_ok-letter.letter in
     let s = c.args.stage in
     let same : take (m - 0) vs ≡ take m vs = ap (λ k. take k vs) (sub-zero m) in
-    let row = c.in-ok-letter.ensures.answer in
+    let row = c.in_ok-letter.ensures.answer in
     let a = (row_parts c.args.width c.args.largest c.args.row s c.args.text.now _ c.requires.wide row).1 in
     let then = c.advance.ensures.answer ∙ ap (moved s l) same in
     let t = tables c.args.nets.now c.args.pins.now c.args.closeness.now c.args.columns.now c.args.welds.now in

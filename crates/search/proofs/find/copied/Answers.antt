@@ -3,4 +3,4 @@ use Rattle.std.proofs.lemmas.List.{take_at}
 use Rattle.search.proofs.find.copied.Goals as goal
 
 pub returns : goal.returns
-returns c = record { answer = take_at c.copy-from-slice.new.self _ _ (omega (arith, c.copy-from-slice.ensures.len)) ∙ c.copy-from-slice.ensures.after }
+returns c = record { answer = take_at c.copy_from_slice.new.self _ _ (omega (arith, c.copy_from_slice.ensures.len)) ∙ c.copy_from_slice.ensures.after }

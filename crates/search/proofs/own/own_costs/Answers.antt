@@ -23,9 +23,9 @@ loop-p-preserved g c =
     elim c.if-names-p.branch [
       | then-names-p w ↦
           rw (w.slot-is, w.lines-is)
-          (owned_writes price names c.args.start c.args.lines.now c.loop-p.p c.loop-p.slot c.loop-p.lines w.put-line.new.lines _ c.loop-p.invariant (omega arith) (eq-eqb _ _ (omega arith))
+          (owned_writes price names c.args.start c.args.lines.now c.loop-p.p c.loop-p.slot c.loop-p.lines w.put_line.new.lines _ c.loop-p.invariant (omega arith) (eq-eqb _ _ (omega arith))
           (omega (arith, c.loop-p.invariant.at, c.requires.room, between_below names c.loop-p.p (omega arith) c.loop-p-test.true c.requires.first (eq-eqb _ _ (omega arith))))
-          w.put-line.ensures.after w.alone-cost-cost.ensures.answer)
+          w.put_line.ensures.after w.alone_cost-cost.ensures.answer)
       | else-names-p w ↦ rw (w.slot-is, w.lines-is) (owned_passes price names c.args.start c.args.lines.now c.loop-p.p c.loop-p.slot c.loop-p.lines c.loop-p.invariant (omega arith) (ne_eqb _ _ w.if-names-p.false))
     ]
 

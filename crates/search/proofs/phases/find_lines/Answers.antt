@@ -10,7 +10,7 @@ positive u h = elim (cases_eq u 0) [ inl e ↦ absurd (h e) | inr e ↦ omega ar
 
 pub loop-i-init : goal.loop-i-init
 loop-i-init g c =
-    let k = g.Cost.CostKind in
+    let k = g.M.Cost.CostKind in
     listed_none k.amount k.plus k.le (g.M.Measure.price c.args.measure.now) (length c.args.names.now) c.args.count c.args.names.now c.args.lines.now
     (record { some = c.requires.some; size = refl; named = c.requires.named }) c.requires.groups
 
@@ -39,38 +39,38 @@ last_two-t-requires g c =
       start = omega (arith, c.requires.groups, c.requires.few, groups_low c.args.names.now);
       first = zero_stands f.grouped;
       room = omega (arith, f.standing, f.long);
-      own = c.own-costs.ensures.own;
+      own = c.own_costs.ensures.own;
     }
 
 pub own_cost-cost-requires : goal.own_cost-cost-requires
 own_cost-cost-requires g c =
-    let k = g.Cost.CostKind in
+    let k = g.M.Cost.CostKind in
     let f = c.loop-i.invariant in
-    let two = c.last-two-t.ensures in
+    let two = c.last_two-t.ensures in
     let ends = listed_ends k.amount k.plus k.le (g.M.Measure.price c.args.measure.now) (length c.args.names.now) c.args.count c.args.names.now c.args.lines.now
-    g.met.Cost.CostKind.lawful c.loop-i.i c.loop-i.names c.loop-i.lines f c.loop-i-test.true c.last-two-t.result.0 c.last-two-t.result.1 two.before two.last in
+    g.met.M.Cost.CostKind.lawful c.loop-i.i c.loop-i.names c.loop-i.lines f c.loop-i-test.true c.last_two-t.result.0 c.last_two-t.result.1 two.before two.last in
     record {
       few = omega (arith, f.grouped.size);
       start = omega (arith, c.requires.groups, c.requires.few, groups_low c.args.names.now);
       first = zero_stands f.grouped;
-      within = (positive c.last-two-t.result.1 ends.3, standing_part f.grouped _ ends.1);
+      within = (positive c.last_two-t.result.1 ends.3, standing_part f.grouped _ ends.1);
       stands = ends.1;
       room = omega (arith, f.standing, f.long);
-      own = c.own-costs.ensures.own;
+      own = c.own_costs.ensures.own;
     }
 
 pub loop-i-preserved : goal.loop-i-preserved
 loop-i-preserved g c =
-    let k = g.Cost.CostKind in
-    let two = c.last-two-t.ensures in
+    let k = g.M.Cost.CostKind in
+    let two = c.last_two-t.ensures in
     listed_more k.amount k.plus k.le (g.M.Measure.price c.args.measure.now) (length c.args.names.now) c.args.count c.args.names.now c.args.lines.now
-    g.met.Cost.CostKind.lawful c.loop-i.i c.loop-i.names c.loop-i.lines c.loop-i.invariant c.loop-i-test.true c.last-two-t.result.0 c.last-two-t.result.1 two.before two.last
-    c.own-cost-cost.result c.join.new.names c.own-costs.new.lines c.put-line.new.lines c.requires.room c.own-costs.ensures.before c.own-costs.ensures.later (omega arith)
-    c.own-cost-cost.ensures.answer c.join.ensures.after c.put-line.ensures.after
+    g.met.M.Cost.CostKind.lawful c.loop-i.i c.loop-i.names c.loop-i.lines c.loop-i.invariant c.loop-i-test.true c.last_two-t.result.0 c.last_two-t.result.1 two.before two.last
+    c.own_cost-cost.result c.join.new.names c.own_costs.new.lines c.put_line.new.lines c.requires.room c.own_costs.ensures.before c.own_costs.ensures.later (omega arith)
+    c.own_cost-cost.ensures.answer c.join.ensures.after c.put_line.ensures.after
 
 pub returns : goal.returns
 returns g c =
-    let k = g.Cost.CostKind in
+    let k = g.M.Cost.CostKind in
     record {
       after = listed_all k.amount k.plus k.le (g.M.Measure.price c.args.measure.now) (length c.args.names.now) c.args.count c.args.names.now c.args.lines.now
           c.loop-i.i c.loop-i.names c.loop-i.lines c.loop-i.invariant (omega arith) c.requires.room;
