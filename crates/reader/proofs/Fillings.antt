@@ -33,26 +33,23 @@ moved_is (body c) l vs = ap Body (by (eqb l letter_N) (eqb l letter_C) (eqb l le
     pins : length c.pins + (length vs - 1) ≡ length (c.pins ++ drop 1 vs)
     pins = ap (λ m. length c.pins + m) (sym (length-drop 1 vs)) ∙ sym (length-append c.pins (drop 1 vs))
 
-    abbrev h : Header
-    h = header_of c
-
-    by : (n e b : Bool) → cond n (header h (h.nets + 1) (h.pins + (length vs - 1)) h.closeness h.rows h.welds) (cond e (header h h.nets h.pins (h.closeness + length vs) h.rows h.welds) (cond b (header h h.nets h.pins h.closeness (h.rows + 1) h.welds) (header h h.nets h.pins h.closeness h.rows (h.welds + 1))))
+    by : (n e b : Bool) → cond n (header (header_of c) ((header_of c).nets + 1) ((header_of c).pins + (length vs - 1)) (header_of c).closeness (header_of c).rows (header_of c).welds) (cond e (header (header_of c) (header_of c).nets (header_of c).pins ((header_of c).closeness + length vs) (header_of c).rows (header_of c).welds) (cond b (header (header_of c) (header_of c).nets (header_of c).pins (header_of c).closeness ((header_of c).rows + 1) (header_of c).welds) (header (header_of c) (header_of c).nets (header_of c).pins (header_of c).closeness (header_of c).rows ((header_of c).welds + 1))))
       ≡ header_of (cond n (with_net c vs) (cond e (with_entries c vs) (cond b (with_row c vs) (with_weld c vs))))
-    by true e b = ap₂ (λ x y. header h x y h.closeness h.rows h.welds) (sym (length_push c.nets (net_at (length c.pins) vs))) pins
-    by false true b = ap (λ x. header h h.nets h.pins x h.rows h.welds) (sym (length-append c.closeness vs))
+    by true e b = ap₂ (λ x y. header (header_of c) x y (header_of c).closeness (header_of c).rows (header_of c).welds) (sym (length_push c.nets (net_at (length c.pins) vs))) pins
+    by false true b = ap (λ x. header (header_of c) (header_of c).nets (header_of c).pins x (header_of c).rows (header_of c).welds) (sym (length-append c.closeness vs))
     by false false true = refl
-    by false false false = ap (λ x. header h h.nets h.pins h.closeness h.rows x) (sym (length_push c.welds (weld_of vs)))
+    by false false false = ap (λ x. header (header_of c) (header_of c).nets (header_of c).pins (header_of c).closeness (header_of c).rows x) (sym (length_push c.welds (weld_of vs)))
 
 -- the stage that the rows give is that of the state that they give
 pub walked_is : (w top r : ℕ) (s : State) (ps : List (List ℕ)) → walked w top r (stage_of s) ps ≡ and_then (read_rows w top r s ps) (λ g. Ok (stage_of g))
 walked_is w top r s [] = refl
 walked_is w top r s ([] ∷ []) = refl
 walked_is w top r s ((b ∷ t) ∷ []) = refl
-walked_is w top r s (t ∷ p ∷ ps) = by (row_of w top r (stage_of s) t)
+walked_is w top r s (t ∷ p ∷ ps) = by (λ z. walked_is w top (r + 1) z (p ∷ ps)) (row_of w top r (stage_of s) t)
   where
-    by : (x : Result (ℕ × List ℕ) RowFault) → and_then (in_file x) (λ o. walked w top (r + 1) (moved (stage_of s) o.0 o.1) (p ∷ ps)) ≡ and_then (and_then (in_file x) (λ o. read_rows w top (r + 1) (advanced s o.0 o.1) (p ∷ ps))) (λ g. Ok (stage_of g))
-    by (Ok o) = ap (λ g. walked w top (r + 1) g (p ∷ ps)) (moved_is s o.0 o.1) ∙ walked_is w top (r + 1) (advanced s o.0 o.1) (p ∷ ps)
-    by (Err e) = refl
+    by : ((z : State) → walked w top (r + 1) (stage_of z) (p ∷ ps) ≡ and_then (read_rows w top (r + 1) z (p ∷ ps)) (λ g. Ok (stage_of g))) → (x : Result (ℕ × List ℕ) RowFault) → and_then (in_file x) (λ o. walked w top (r + 1) (moved (stage_of s) o.0 o.1) (p ∷ ps)) ≡ and_then (and_then (in_file x) (λ o. read_rows w top (r + 1) (advanced s o.0 o.1) (p ∷ ps))) (λ g. Ok (stage_of g))
+    by on (Ok o) = ap (λ g. walked w top (r + 1) g (p ∷ ps)) (moved_is s o.0 o.1) ∙ on (advanced s o.0 o.1)
+    by on (Err e) = refl
 
 -- more elements over the front of a table
 over_more : {X : Type 0} (xs ys t : List X) → length xs + length ys ≤ length t → set_from (length xs) ys (over xs t) ≡ over (xs ++ ys) t

@@ -12,7 +12,7 @@ split_at-requires c = whole_first (length c.loop-left.left.now) c.args.width (om
 
 pub returns-in_err-number : goal.returns-in_err-number
 returns-in_err-number c =
-    let p = err_from_is_err_and c.from-residual.result c.from-residual.ensures.1 in
+    let p = err_from_is_err_and c.from_residual.result c.from_residual.ensures.1 in
     let some : 0 < length c.loop-left.left.now = omega (arith, false-eqb _ 0 c.loop-left-test.ensures) in
     record { answer = rw (p.1, p.2) (fielded_stops _ _ _ _ _ _ _ _ _ c.loop-left.invariant c.requires.wide some c.split_at.ensures.front c.split_at.ensures.back _ c.in_err-number.ensures.answer) }
 
