@@ -6,7 +6,7 @@ use Rattle.std.proofs.lemmas.Bool.{and_parts, ltb-true}
 use Rattle.std.proofs.lemmas.Bool.Decides.{nat_tests}
 use Rattle.measure.specs.Asked.{asked}
 use Rattle.measure.specs.Laws.{MeasureLaws}
-use Rattle.measure.specs.Rows.{Row, complement, merged, either, both}
+use Rattle.measure.specs.Rows.{Row, complement, merged}
 use Rattle.measure.proofs.Asked.{asked_row}
 use Rattle.measure.proofs.Lists.{every_at}
 use Rattle.measure.proofs.Rows.{getD_merged}

@@ -1,11 +1,11 @@
 -- The rows of a closeness table. Assumes nothing.
-use Rattle.std.proofs.Common.{◌≡◌, ℕ, zero, suc, ◌+◌, ◌*◌, ◌/◌, ◌%◌, ◌<◌, ◌≤◌, List, [], ◌∷◌, ◌++◌, length, take, drop, sym, refl, ap, ◌∙◌, suc-mul, div-add-mod', zero-mul, arith, length-append, length-drop}
+use Rattle.std.proofs.Common.{◌≡◌, ℕ, zero, suc, ◌*◌, ◌/◌, ◌%◌, ◌<◌, ◌≤◌, List, [], ◌∷◌, ◌++◌, length, drop, sym, ap, ◌∙◌, suc-mul, div-add-mod', zero-mul, arith, length-append, length-drop}
 use Rattle.std.specs.List.{flat_map}
 use Rattle.std.proofs.lemmas.List.{take_all, drop_all, take-append-le, drop-append-le, flat_map_more, nil_from_length}
 use Rattle.figure.specs.Cut.{pieces}
 use Rattle.figure.specs.Rules.{letter_C}
 use Rattle.figure.specs.Writing.{row_text, entry_rows}
-use Rattle.figure.proofs.Cutting.{pieces_more, pieces_none}
+use Rattle.figure.proofs.Cutting.{pieces_more}
 
 -- a whole number of rows
 pub whole_rows : (n m : ℕ) → m % n ≡ 0 → m ≡ m / n * n

@@ -1,5 +1,5 @@
 -- The numbers in a row's fields: what is read is what is written, and what is written is read back. Assumes nothing.
-use Rattle.std.proofs.Common.{◌≡◌, ℕ, zero, suc, ◌+◌, ◌-◌, ◌%◌, ◌^◌, ◌<◌, ◌≤◌, true, eqb, List, [], ◌∷◌, ◌++◌, map, length, take, drop, Ok, Err, decimal, sym, refl, ap, ◌∙◌, append_assoc, arith, length-append, length-drop}
+use Rattle.std.proofs.Common.{◌≡◌, ℕ, zero, suc, ◌+◌, ◌-◌, ◌%◌, ◌^◌, ◌<◌, ◌≤◌, true, eqb, List, [], ◌∷◌, ◌++◌, map, length, take, drop, Ok, Err, sym, refl, ap, ◌∙◌, append_assoc, arith, length-append, length-drop}
 use native.Mathlib.Nat.{zero-mod, add-mod_left, pow-le-pow_right}
 use Rattle.std.specs.List.{flat_map, AllByRecursion as All}
 use Rattle.std.proofs.lemmas.Fmt.{length-decimal-le}
@@ -7,7 +7,7 @@ use Rattle.std.proofs.ByRecursion.{All-append}
 use Rattle.std.proofs.lemmas.List.{append-nil, take_at, drop_at, take-append-drop, length-take-le}
 use Rattle.std.proofs.lemmas.Bool.{cond-true, eq-eqb}
 use Rattle.std.proofs.lemmas.Bool.Decides.{nat_tests}
-use Rattle.columns.specs.Field.{field, fits, room}
+use Rattle.columns.specs.Field.{field, fits}
 use Rattle.columns.specs.Number.{number}
 use Rattle.columns.specs.declared.fault.FieldFault.{FieldFault}
 use Rattle.columns.proofs.Laws.{length_field, written_reads_back, read_is_written, clean_field}

@@ -1,5 +1,5 @@
 -- A row that is read stands at the end of the file of what it makes. Assumes nothing.
-use Rattle.std.proofs.Common.{◌≡◌, ℕ, zero, suc, ◌+◌, ◌-◌, ◌*◌, ◌%◌, ◌^◌, ◌<◌, ◌≤◌, Bool, true, false, cond, ◌&&◌, eqb, ltb, leb, ◌⊎◌, List, [], ◌∷◌, ◌++◌, length, replicate, Ok, Err, sym, refl, ap, ◌∙◌, subst, inl, inr, ⊎_elim, append_assoc, arith, length-append}
+use Rattle.std.proofs.Common.{◌≡◌, ℕ, zero, suc, ◌+◌, ◌-◌, ◌%◌, ◌^◌, ◌<◌, ◌≤◌, true, ◌&&◌, eqb, ltb, leb, ◌⊎◌, List, [], ◌∷◌, ◌++◌, length, replicate, Ok, sym, refl, ap, ◌∙◌, subst, inl, inr, ⊎_elim, append_assoc, arith, length-append}
 use native.Mathlib.Nat.{zero-mod, add-mod_right}
 use lib.ListN.{length-replicate}
 use Rattle.std.specs.List.{flat_map, AllByRecursion as All}
@@ -8,24 +8,20 @@ use Rattle.std.proofs.lemmas.List.{append-nil, flat_map_more, length_push, nil_f
 use Rattle.std.proofs.lemmas.Bool.{and_parts, cases_Bool, cond-false, eqb-true, leb-true, ltb-true}
 use Rattle.std.proofs.lemmas.Bool.Decides.{nat_tests}
 use Rattle.columns.specs.Field.{field}
-use Rattle.nets.specs.declared.net.Net.{Net}
-use Rattle.figure.specs.Content.{Content, State, start, sized, body, header_of, opening, net_at, weld_of, with_bits, with_net, with_entries, with_row, with_weld, placed, stage_of, advanced}
-use Rattle.figure.specs.Cut.{and_then}
+use Rattle.figure.specs.Content.{Content, State, start, sized, body, header_of, net_at, weld_of, with_net, with_entries, with_row, with_weld, placed, stage_of, advanced}
 use Rattle.figure.specs.Kinds.{kinds, kind_of, kind_number, multipliers}
-use Rattle.figure.specs.Reading.{in_file, ended, read_rows, whole_closeness, finished}
-use Rattle.figure.specs.Rules.{letter_F, letter_M, letter_N, letter_C, letter_B, letter_W, in_place, range, rule, rule_of, row_of}
+use Rattle.figure.specs.Reading.{in_file, read_rows}
+use Rattle.figure.specs.Rules.{letter_F, letter_M, letter_N, letter_C, letter_B, letter_W, in_place, range, rule, row_of}
 use Rattle.figure.specs.Writing.{row_text, net_rows, entry_rows, matrix_rows, weld_rows, head_rows, file_of, follow}
-use Rattle.figure.specs.declared.fault.FileFault.TheVariants.{Missing}
 use Rattle.figure.specs.declared.header.Header.{Header}
 use Rattle.figure.specs.declared.header.Weld.{Weld}
-use Rattle.figure.specs.declared.stage.Stage.{Stage}
 use Rattle.figure.specs.declared.stage.Stage.TheVariants.{Start, Sized, Body}
 use Rattle.figure.proofs.Cutting.{uncut}
 use Rattle.figure.proofs.Entries.{entry_rows_more}
 use Rattle.figure.proofs.Matrix.{length_with_bits, columns_more, matrix_rows_more}
 use Rattle.figure.proofs.Nets.{Placed, follow_more, net_rows_more}
 use Rattle.figure.proofs.Ranges.{In, outside_in, outside_all}
-use Rattle.figure.proofs.Results.{ok_same, err_ok, and_then_parts, cond_parts, in_file_ok}
+use Rattle.figure.proofs.Results.{ok_same, err_ok, and_then_parts, in_file_ok}
 use Rattle.figure.proofs.Rows.{Accepted, row_parts}
 use Rattle.figure.proofs.Sound.{Sound}
 

@@ -1,32 +1,25 @@
 -- The file of a sound content leads the reader, row by row, to that content. Assumes nothing.
-use Rattle.std.proofs.Common.{◌≡◌, ℕ, zero, suc, ◌+◌, ◌-◌, ◌*◌, ◌/◌, ◌^◌, ◌<◌, ◌≤◌, Bool, true, false, ◌&&◌, eqb, ltb, leb, List, [], ◌∷◌, ◌++◌, length, get_or, take, drop, replicate, Ok, sym, refl, ap, ◌∙◌, subst, append_assoc, suc-mul, zero-mul, arith, length-append, length-drop}
+use Rattle.std.proofs.Common.{◌≡◌, ℕ, ◌+◌, ◌-◌, ◌^◌, ◌<◌, ◌≤◌, true, eqb, List, [], ◌∷◌, ◌++◌, get_or, refl, ap, ◌∙◌, subst, append_assoc, arith}
 use native.Mathlib.Nat.{pow-le-pow_right}
-use Rattle.std.specs.List.{range_with_len, flat_map, AllByRecursion as All}
-use Rattle.std.proofs.ByRecursion.{All-take, All-drop, All-weaker}
-use Rattle.std.proofs.lemmas.List.{append-nil, length-map, length_push, length-take-le, take-append-drop}
-use Rattle.std.proofs.lemmas.Bool.{and_from, cond_both, eqb-true, false≢true, le-leb, lt-ltb}
+use Rattle.std.specs.List.{flat_map, AllByRecursion as All}
+use Rattle.std.proofs.ByRecursion.{All-weaker}
+use Rattle.std.proofs.lemmas.Bool.{cond_both, false≢true}
 use Rattle.columns.specs.Field.{field}
-use Rattle.nets.specs.declared.net.Net.{Net}
-use Rattle.figure.specs.Content.{Content, State, start, sized, body, header_of, net_at, stage_of, advanced}
-use Rattle.figure.specs.Cut.{and_then, cut, pieces}
-use Rattle.figure.specs.Kinds.{kinds, kind_of, kind_number, multipliers}
+use Rattle.figure.specs.Content.{State, stage_of, advanced}
+use Rattle.figure.specs.Cut.{and_then, cut}
+use Rattle.figure.specs.Kinds.{kind_of, multipliers}
 use Rattle.figure.specs.Reading.{in_file, read_rows}
-use Rattle.figure.specs.Rules.{letter_F, letter_M, letter_N, letter_C, letter_B, letter_W, in_place, range, rule, rule_of}
-use Rattle.figure.specs.Writing.{row_text, net_rows, entry_rows, bits_of, matrix_rows, weld_rows, head_rows, file_of, follow}
+use Rattle.figure.specs.Rules.{letter_N, letter_C, letter_B, in_place, rule_of}
+use Rattle.figure.specs.Writing.{row_text}
 use Rattle.figure.specs.declared.header.Kind.{Kind}
 use Rattle.figure.specs.declared.header.Kind.TheVariants.{Nets, Closeness, Coder, Sum, Tie}
-use Rattle.figure.specs.declared.header.Weld.{Weld}
 use Rattle.figure.specs.declared.rule.Rule.{Rule}
 use Rattle.figure.specs.declared.stage.Stage.{Stage}
 use Rattle.figure.specs.declared.stage.Stage.TheVariants.{Start, Sized, Body}
-use Rattle.figure.proofs.Cutting.{Inside, pieces_more}
-use Rattle.figure.proofs.Entries.{whole_rows}
+use Rattle.figure.proofs.Cutting.{Inside}
 use Rattle.figure.proofs.Fields.{Small, cut_text}
-use Rattle.figure.proofs.Matrix.{low_bits, low_bits_more, low_bits_all, low_bits_none, bits_small}
-use Rattle.figure.proofs.Nets.{follow_parts, follow_le}
-use Rattle.figure.proofs.Ranges.{In, outside_in, outside_none, all_outside}
+use Rattle.figure.proofs.Ranges.{In, outside_in}
 use Rattle.figure.proofs.Rows.{Accepted, row_back, read_more}
-use Rattle.figure.proofs.Sound.{Sound}
 
 -- after the text the reader, which stood at s, stands at g
 abbrev pub Leads : ℕ → ℕ → State → List ℕ → State → Type 0

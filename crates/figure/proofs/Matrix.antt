@@ -1,5 +1,5 @@
 -- The rows of a matrix as the bits of its columns. Assumes nothing.
-use Rattle.std.proofs.Common.{◌≡◌, ℕ, zero, suc, ◌+◌, ◌-◌, ◌*◌, ◌/◌, ◌%◌, ◌^◌, ◌<◌, ◌≤◌, List, [], ◌∷◌, ◌++◌, map, length, get_or, replicate, sym, refl, ap, ◌∙◌, map-id, mul-le-mul_right, mod-lt, mod-eq_of_lt, mul_assoc, add_comm, one-mul, arith, pow-add}
+use Rattle.std.proofs.Common.{◌≡◌, ℕ, zero, suc, ◌+◌, ◌-◌, ◌*◌, ◌/◌, ◌%◌, ◌^◌, ◌<◌, ◌≤◌, List, [], ◌∷◌, ◌++◌, map, length, get_or, replicate, sym, refl, ap, ◌∙◌, map-id, mul-le-mul_right, mod-eq_of_lt, mul_assoc, add_comm, one-mul, arith, pow-add}
 use native.Mathlib.Nat.{add-mul-mod_self_right, pow-le-pow_right, mod-one}
 use lib.Pow.{pow-lt, high, field, mod-pow-add}
 use Rattle.std.specs.List.{range_with_len, flat_map, AllByRecursion as All}

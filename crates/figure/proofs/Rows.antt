@@ -1,5 +1,5 @@
 -- A row is accepted if its letter, its numbers and its room are right. Assumes nothing.
-use Rattle.std.proofs.Common.{◌≡◌, ℕ, ◌+◌, ◌<◌, ◌≤◌, true, cond, ◌&&◌, leb, List, [], ◌∷◌, length, Some, None, Ok, Err, Option, Result, sym, refl, ap, ◌∙◌, subst, arith}
+use Rattle.std.proofs.Common.{◌≡◌, ℕ, ◌+◌, ◌<◌, ◌≤◌, true, cond, ◌&&◌, leb, List, [], ◌∷◌, length, Some, None, Ok, Err, Option, refl, ap, ◌∙◌, subst}
 use Rattle.std.specs.List.{flat_map, AllByRecursion as All}
 use Rattle.std.proofs.lemmas.Bool.{and_from, and_parts, cond-true, le-leb, leb-true}
 use Rattle.columns.specs.Field.{field}
@@ -7,8 +7,6 @@ use Rattle.figure.specs.Cut.{and_then, cut, opened, numbers, pieces}
 use Rattle.figure.specs.Content.{State, stage_of, advanced}
 use Rattle.figure.specs.Reading.{in_file, read_rows}
 use Rattle.figure.specs.Rules.{in_place, rule_of, outside, ranged, judged, has_room, roomed, row_of}
-use Rattle.figure.specs.declared.fault.FileFault.{FileFault}
-use Rattle.figure.specs.declared.fault.RowFault.{RowFault}
 use Rattle.figure.specs.declared.fault.RowFault.TheVariants.{Letter, Count, TooMany}
 use Rattle.figure.specs.declared.rule.Rule.{Rule}
 use Rattle.figure.specs.declared.stage.Stage.{Stage}

@@ -1,14 +1,12 @@
 -- A content that rows have made so far: all that a file must be but whole. Assumes nothing.
-use Rattle.std.proofs.Common.{◌≡◌, ℕ, ◌*◌, ◌%◌, ◌^◌, ◌<◌, ◌≤◌, Bool, true, false, cond, not, ◌&&◌, eqb, ltb, leb, List, [], ◌∷◌, length, sym, refl, ap, ◌∙◌}
+use Rattle.std.proofs.Common.{◌≡◌, ℕ, ◌*◌, ◌%◌, ◌^◌, ◌<◌, ◌≤◌, Bool, true, false, cond, not, ◌&&◌, eqb, ltb, leb, List, [], ◌∷◌, length, refl, ap, ◌∙◌}
 use native.Mathlib.Nat.{zero-mod, mul-mod_left}
 use Rattle.std.specs.List.{AllByRecursion as All}
 use Rattle.std.proofs.lemmas.Bool.{and_from, and_parts, eqb-true, le-leb, leb-true, lt-ltb, ltb-true}
-use Rattle.measure.specs.Limits.{count_fits}
 use Rattle.measure.specs.Lists.{every}
 use Rattle.figure.specs.Content.{Content}
 use Rattle.figure.specs.Kinds.{multipliers, needs_closeness}
 use Rattle.figure.specs.Reading.{whole_closeness}
-use Rattle.figure.specs.Rules.{within}
 use Rattle.figure.specs.Writing.{follow, admits}
 use Rattle.figure.specs.declared.header.Kind.{Kind}
 use Rattle.figure.specs.declared.header.Weld.{Weld}

@@ -4,7 +4,6 @@ use Rattle.columns.specs.Faults.{field_number}
 use Rattle.figure.specs.declared.fault.FileFault.{FileFault}
 use Rattle.figure.specs.declared.fault.FileFault.TheVariants.{Row, Missing, TableShort}
 use Rattle.figure.specs.declared.fault.Refusal.{Refusal}
-use Rattle.figure.specs.declared.fault.RowFault.{RowFault}
 use Rattle.figure.specs.declared.fault.RowFault.TheVariants.{Unended, Length, Letter, Field, Count, Range, TooMany}
 use Rattle.figure.specs.declared.fault.WriteFault.{WriteFault}
 use Rattle.figure.specs.declared.fault.WriteFault.TheVariants.{Content, Short}

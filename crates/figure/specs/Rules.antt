@@ -4,7 +4,6 @@ use Rattle.figure.specs.Cut.{and_then, opened, numbers, pieces}
 use Rattle.figure.specs.Kinds.{kinds, kind_of, multipliers}
 use Rattle.figure.specs.declared.fault.RowFault.{RowFault}
 use Rattle.figure.specs.declared.fault.RowFault.TheVariants.{Letter, Count, Range as OutOfRange, TooMany}
-use Rattle.figure.specs.declared.header.Header.{Header}
 use Rattle.figure.specs.declared.rule.Range.{Range}
 use Rattle.figure.specs.declared.rule.Rule.{Rule}
 use Rattle.figure.specs.declared.stage.Stage.{Stage}

@@ -1,5 +1,5 @@
 -- How a function of what is left of a list goes on from each place of the list, and where it ends: what a loop over the list needs of it. Assumes nothing.
-use Rattle.std.proofs.Common.{◌≡◌, ℕ, ◌+◌, ◌<◌, List, [], ◌∷◌, length, get_or, drop, refl, arith}
+use Rattle.std.proofs.Common.{◌≡◌, ℕ, ◌+◌, ◌<◌, List, [], ◌∷◌, length, get_or, drop, arith}
 use Rattle.std.proofs.lemmas.List.{at_drop_more, at_drop_all}
 
 pub record Unfolds {X Y : Type 0} (F : List X → Y) (d : X) (xs : List X) : Type 0 where

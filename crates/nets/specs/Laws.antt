@@ -1,13 +1,13 @@
 -- The cut of nets is symmetric, submodular and at most the sum of the weights. Assumes nothing.
-use Rattle.std.specs.Prelude.{◌≡◌, ℕ, ◌+◌, ◌*◌, ◌<◌, ◌≤◌, Bool, true, false, cond, not, ◌&&◌, ◌||◌, List, [], ◌∷◌, length, nat_lt, refl}
+use Rattle.std.specs.Prelude.{◌≡◌, ℕ, ◌+◌, ◌*◌, ◌≤◌, Bool, true, not, ◌&&◌, ◌||◌, List, [], ◌∷◌, length, nat_lt, refl}
 use Rattle.std.proofs.Common.{arith}
 use Rattle.std.proofs.lemmas.Bool.{and_parts, ltb-true}
 use Rattle.std.proofs.lemmas.Bool.Decides.{nat_tests}
-use Rattle.measure.specs.Lists.{every, any, summed}
+use Rattle.measure.specs.Lists.{every, any}
 use Rattle.measure.specs.Rows.{Row, marks, complement, either, both}
 use Rattle.measure.proofs.Lists.{every_take, every_drop}
 use Rattle.measure.proofs.Rows.{marks_complement, marks_either, marks_both}
-use Rattle.nets.specs.Cut.{pins_of, divides, charge, cut, weights}
+use Rattle.nets.specs.Cut.{pins_of, charge, cut, weights}
 use Rattle.nets.specs.Making.{net_fits, pins_fit}
 use Rattle.nets.specs.declared.net.Net.{Net}
 

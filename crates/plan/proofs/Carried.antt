@@ -1,5 +1,5 @@
 -- The loop that carries out the calls of a run. Assumes nothing.
-use Rattle.std.proofs.Common.{◌≡◌, ℕ, ◌+◌, ◌<◌, ◌≤◌, Bool, ◌≢◌, List, [], ◌∷◌, ◌++◌, map, length, get_or, take, drop, set, sym, refl, ap, ◌∙◌, subst, arith, below_more}
+use Rattle.std.proofs.Common.{◌≡◌, ℕ, ◌+◌, ◌<◌, ◌≤◌, Bool, ◌≢◌, List, [], ◌∷◌, ◌++◌, length, get_or, take, drop, set, sym, refl, ap, ◌∙◌, subst, arith, below_more}
 use Rattle.std.proofs.lemmas.List.{take_more, take_all, get_or_default, get_or-drop, drop-set-lt, drop-drop, get_or-set_same, get_or-set_other, map_push}
 use Rattle.plan.specs.Runs.{Certain, Done, calls_of}
 use Rattle.plan.specs.Standing.{after, standing_of, stepped}

@@ -1,5 +1,5 @@
 -- What each call answers and leaves in its buffers, by the groups that stand. Assumes nothing.
-use Rattle.std.specs.Prelude.{◌≡◌, ℕ, Bool, cond, List, Ok, Err, Result}
+use Rattle.std.specs.Prelude.{ℕ, Bool, cond, List, Ok, Err, Result}
 use Rattle.cost.specs.declared.line.Line.{Line}
 use Rattle.measure.specs.Asked.{asked}
 use Rattle.measure.specs.declared.fault.RowFault.{RowFault}

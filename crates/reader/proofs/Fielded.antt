@@ -1,11 +1,9 @@
 -- The fields of a row, read from the left. Assumes nothing.
-use Rattle.std.proofs.Common.{◌≡◌, ℕ, ◌+◌, ◌-◌, ◌%◌, ◌<◌, ◌≤◌, List, [], ◌∷◌, ◌++◌, length, take, drop, set, Ok, Err, Result, sym, refl, ap, ◌∙◌, arith}
+use Rattle.std.proofs.Common.{◌≡◌, ℕ, ◌+◌, ◌-◌, ◌%◌, ◌<◌, ◌≤◌, List, [], ◌∷◌, ◌++◌, length, take, drop, set, Ok, Err, sym, ap, ◌∙◌, arith}
 use Rattle.std.proofs.lemmas.List.{length_push, length-drop}
 use Rattle.columns.specs.Number.{number}
-use Rattle.columns.specs.declared.fault.FieldFault.{FieldFault}
 use Rattle.figure.specs.Cut.{and_then, in_row, numbers, pieces}
 use Rattle.figure.specs.declared.fault.FieldRefusal.{FieldRefusal}
-use Rattle.figure.specs.declared.fault.RowFault.{RowFault}
 use Rattle.figure.specs.declared.fault.RowFault.TheVariants.{Field}
 use Rattle.figure.proofs.Cutting.{pieces_more, pieces_none, whole_rest}
 use Rattle.reader.specs.Answers.{Refuses, Kept, set_from}

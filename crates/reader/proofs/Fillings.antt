@@ -1,27 +1,23 @@
 -- Rows laid into tables fill their fronts with the content that the rows make. Assumes nothing.
-use Rattle.std.proofs.Common.{◌≡◌, ℕ, zero, suc, ◌+◌, ◌-◌, ◌*◌, ◌%◌, ◌^◌, ◌<◌, ◌≤◌, Bool, true, false, cond, eqb, List, [], ◌∷◌, ◌++◌, length, get_or, take, drop, set, replicate, Ok, Err, Result, sym, refl, ap, ◌∙◌, subst, ap₂, ⊎_elim, mod-eq_of_lt, arith}
+use Rattle.std.proofs.Common.{◌≡◌, ℕ, ◌+◌, ◌-◌, ◌*◌, ◌%◌, ◌^◌, ◌<◌, ◌≤◌, Bool, true, false, cond, eqb, List, [], ◌∷◌, ◌++◌, length, get_or, drop, set, Ok, Err, Result, sym, refl, ap, ◌∙◌, subst, ap₂, ⊎_elim, mod-eq_of_lt, arith}
 use Rattle.std.specs.List.{AllByRecursion as All}
 use Rattle.std.proofs.ByRecursion.{All-weaker}
 use Rattle.std.proofs.lemmas.Bool.{ltb-true}
-use Rattle.std.proofs.lemmas.List.{append_assoc, append-nil, drop_at, drop-drop, get_or_at, length-append, length-drop, length_push, set_at, take_at}
-use Rattle.figure.specs.Content.{Content, State, start, sized, body, header_of, net_at, weld_of, opening, with_bits, with_net, with_entries, with_row, with_weld, placed, stage_of, advanced}
+use Rattle.std.proofs.lemmas.List.{append_assoc, drop_at, drop-drop, get_or_at, length-append, length-drop, length_push, set_at, take_at}
+use Rattle.figure.specs.Content.{Content, State, start, sized, body, header_of, net_at, weld_of, with_bits, with_net, with_entries, with_row, with_weld, placed, stage_of, advanced}
 use Rattle.figure.specs.Cut.{and_then}
-use Rattle.figure.specs.Reading.{in_file, ended, read_rows}
+use Rattle.figure.specs.Reading.{in_file, read_rows}
 use Rattle.figure.specs.Rules.{letter_N, letter_C, letter_B, letter_W, range, rule, row_of}
 use Rattle.figure.specs.Tables.{Tables, tables, over, filled}
-use Rattle.figure.specs.declared.fault.FileFault.{FileFault}
 use Rattle.figure.specs.declared.fault.RowFault.{RowFault}
-use Rattle.figure.specs.declared.header.Header.{Header}
-use Rattle.figure.specs.declared.stage.Stage.{Stage}
-use Rattle.figure.specs.declared.stage.Stage.TheVariants.{Start, Sized, Body}
-use Rattle.figure.proofs.Growing.{Holds, letter_cases, row_holds}
+use Rattle.figure.specs.declared.stage.Stage.TheVariants.{Body}
+use Rattle.figure.proofs.Growing.{letter_cases}
 use Rattle.figure.proofs.Matrix.{shifted, column_fits, length_with_bits}
 use Rattle.figure.proofs.Ranges.{In, outside_all}
-use Rattle.figure.proofs.Results.{ok_same, err_ok, and_then_parts, in_file_ok}
-use Rattle.figure.proofs.Rows.{Accepted, row_parts}
+use Rattle.figure.proofs.Rows.{Accepted}
 use Rattle.figure.proofs.Sound.{Sound}
 use Rattle.reader.specs.Answers.{set_from}
-use Rattle.reader.specs.Laid.{add_bits, counted, header, laid, laid_at, laid_rows, moved, on_row, plus_bit, walked}
+use Rattle.reader.specs.Laid.{add_bits, header, laid, moved, plus_bit, walked}
 use Rattle.reader.proofs.SetFrom.{set_from_is}
 
 -- the stage moves with the state
@@ -34,7 +30,7 @@ moved_is (body c) l vs = ap Body (by (eqb l letter_N) (eqb l letter_C) (eqb l le
     pins = ap (λ m. length c.pins + m) (sym (length-drop 1 vs)) ∙ sym (length-append c.pins (drop 1 vs))
 
     by : (n e b : Bool) → cond n (header (header_of c) ((header_of c).nets + 1) ((header_of c).pins + (length vs - 1)) (header_of c).closeness (header_of c).rows (header_of c).welds) (cond e (header (header_of c) (header_of c).nets (header_of c).pins ((header_of c).closeness + length vs) (header_of c).rows (header_of c).welds) (cond b (header (header_of c) (header_of c).nets (header_of c).pins (header_of c).closeness ((header_of c).rows + 1) (header_of c).welds) (header (header_of c) (header_of c).nets (header_of c).pins (header_of c).closeness (header_of c).rows ((header_of c).welds + 1))))
-      ≡ header_of (cond n (with_net c vs) (cond e (with_entries c vs) (cond b (with_row c vs) (with_weld c vs))))
+        ≡ header_of (cond n (with_net c vs) (cond e (with_entries c vs) (cond b (with_row c vs) (with_weld c vs))))
     by true e b = ap₂ (λ x y. header (header_of c) x y (header_of c).closeness (header_of c).rows (header_of c).welds) (sym (length_push c.nets (net_at (length c.pins) vs))) pins
     by false true b = ap (λ x. header (header_of c) (header_of c).nets (header_of c).pins x (header_of c).rows (header_of c).welds) (sym (length-append c.closeness vs))
     by false false true = refl
@@ -75,7 +71,7 @@ bits_laid i front (c ∷ cs) (v ∷ vs) rest few same low ones =
     let word = c + v * 2 ^ i in
     let at : plus_bit i (get_or (front ++ (c ∷ (cs ++ rest))) (length front) 0) v ≡ word = ap (λ x. plus_bit i x v) (get_or_at front c (cs ++ rest) 0 (length front) refl) ∙ bit_added i c v few ones.0 low.0 in
     let put : set (front ++ (c ∷ (cs ++ rest))) (length front) (plus_bit i (get_or (front ++ (c ∷ (cs ++ rest))) (length front) 0) v) ≡ (front ++ (word ∷ [])) ++ (cs ++ rest) =
-        ap (set (front ++ (c ∷ (cs ++ rest))) (length front)) at ∙ set_at front c (cs ++ rest) word (length front) refl ∙ sym (append_assoc front (word ∷ []) (cs ++ rest)) in
+    ap (set (front ++ (c ∷ (cs ++ rest))) (length front)) at ∙ set_at front c (cs ++ rest) word (length front) refl ∙ sym (append_assoc front (word ∷ []) (cs ++ rest)) in
     ap₂ (λ k x. add_bits i k vs x) (sym (length_push front word)) put
     ∙ bits_laid i (front ++ (word ∷ [])) cs vs rest few (omega arith) low.1 ones.1
     ∙ append_assoc front (word ∷ []) (with_bits i cs vs ++ rest)

@@ -1,15 +1,15 @@
 -- One row of a file. Assumes nothing.
-use Rattle.std.proofs.Common.{◌≡◌, ℕ, ◌<◌, ◌≤◌, Bool, true, false, cond, ◌&&◌, eqb, leb, List, [], ◌∷◌, length, take, Some, None, Ok, Err, Option, Result, sym, refl, ap, ◌∙◌, subst, arith}
+use Rattle.std.proofs.Common.{◌≡◌, ℕ, ◌<◌, ◌≤◌, Bool, true, false, cond, ◌&&◌, leb, List, [], length, take, Some, None, Ok, Err, Option, Result, sym, refl, ap, ◌∙◌, arith}
 use Rattle.std.proofs.lemmas.Bool.{cond-true, cond-false, and_right, lt-leb}
 use Rattle.std.proofs.lemmas.Bool.Decides.{nat_tests}
 use Rattle.figure.specs.Cut.{and_then, opened, numbers, pieces}
-use Rattle.figure.specs.Rules.{in_place, rule_of, body_rule, outside, ranged, judged, has_room, roomed, row_of, letter_N, letter_C, letter_B}
+use Rattle.figure.specs.Rules.{in_place, rule_of, outside, ranged, judged, has_room, roomed, row_of}
 use Rattle.figure.specs.declared.fault.RowFault.{RowFault}
 use Rattle.figure.specs.declared.fault.RowFault.TheVariants.{Letter, Count}
 use Rattle.figure.specs.declared.rule.Rule.{Rule}
 use Rattle.figure.specs.declared.stage.Stage.{Stage}
 use Rattle.figure.specs.declared.stage.Stage.TheVariants.{Start, Sized, Body}
-use Rattle.reader.specs.Answers.{Few, Kept, forget, set_from}
+use Rattle.reader.specs.Answers.{Few, Kept, forget}
 use Rattle.reader.proofs.SetFrom.{front_kept}
 
 -- no row has more than 81 numbers

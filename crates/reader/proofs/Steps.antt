@@ -1,9 +1,9 @@
 -- What an accepted row gives the steps of the reader. Assumes nothing.
-use Rattle.std.proofs.Common.{◌≡◌, ℕ, ◌+◌, ◌-◌, ◌*◌, ◌<◌, ◌≤◌, true, ltb, leb, ◌⊎◌, List, [], ◌∷◌, length, get_or, drop, sym, refl, ap, ◌∙◌, subst, inl, inr, ⊎_elim, mul-le-mul, arith}
+use Rattle.std.proofs.Common.{◌≡◌, ℕ, ◌+◌, ◌-◌, ◌*◌, ◌≤◌, ltb, leb, List, [], ◌∷◌, length, get_or, drop, sym, refl, subst, ⊎_elim, mul-le-mul, arith}
 use Rattle.std.specs.List.{AllByRecursion as All}
 use Rattle.std.proofs.ByRecursion.{All-get_or}
 use Rattle.std.proofs.lemmas.Bool.{and_parts, leb-true, ltb-true}
-use Rattle.figure.specs.Rules.{letter_N, letter_C, letter_B, letter_W, in_place, range, rule, rule_of, has_room}
+use Rattle.figure.specs.Rules.{letter_N, letter_C, letter_B, letter_W, range, rule}
 use Rattle.figure.specs.declared.header.Header.{Header}
 use Rattle.figure.specs.declared.stage.Stage.{Stage}
 use Rattle.figure.specs.declared.stage.Stage.TheVariants.{Start, Sized, Body}

@@ -1,5 +1,5 @@
 -- What the functions of the reader answer, beside what the definitions say. Assumes nothing.
-use Rattle.std.specs.Prelude.{◌≡◌, ℕ, ◌+◌, ◌<◌, ◌≤◌, List, [], ◌∷◌, length, drop, set, Ok, Err, Result, slice_index, slice_set}
+use Rattle.std.specs.Prelude.{◌≡◌, ℕ, ◌+◌, ◌<◌, ◌≤◌, List, [], ◌∷◌, length, drop, Ok, Err, Result, slice_index, slice_set}
 use Rattle.columns.specs.declared.fault.FieldFault.{FieldFault}
 use Rattle.figure.specs.Rules.{letter_B, letter_C, letter_N}
 use Rattle.figure.specs.declared.fault.FieldRefusal.{FieldRefusal}

@@ -1,5 +1,5 @@
 -- How the rows of a file move the stage, and what they lay into the tables. Assumes nothing.
-use Rattle.std.specs.Prelude.{ℕ, ◌+◌, ◌-◌, ◌*◌, ◌%◌, ◌^◌, cond, List, [], ◌∷◌, length, drop, set, Ok, Err, Result, ◌==◌, slice_index, slice_set}
+use Rattle.std.specs.Prelude.{ℕ, ◌+◌, ◌-◌, ◌*◌, ◌%◌, ◌^◌, cond, List, [], ◌∷◌, length, drop, Ok, Err, Result, ◌==◌, slice_index, slice_set}
 use Rattle.figure.specs.Content.{header_of, net_at, opening, weld_of}
 use Rattle.figure.specs.Cut.{and_then}
 use Rattle.figure.specs.Kinds.{kind_of}
@@ -9,7 +9,6 @@ use Rattle.figure.specs.Tables.{Tables, tables}
 use Rattle.figure.specs.declared.fault.FileFault.{FileFault}
 use Rattle.figure.specs.declared.fault.RowFault.{RowFault}
 use Rattle.figure.specs.declared.header.Header.{Header}
-use Rattle.figure.specs.declared.header.Kind.{Kind}
 use Rattle.figure.specs.declared.stage.Stage.{Stage}
 use Rattle.figure.specs.declared.stage.Stage.TheVariants.{Body, Sized, Start}
 use Rattle.reader.specs.Answers.{set_from}

@@ -1,12 +1,11 @@
 -- Why the certificate holds of the lines and the side of a search. Assumes nothing.
-use Rattle.std.proofs.Common.{◌≡◌, ℕ, zero, suc, ◌+◌, ◌-◌, ◌<◌, ◌≤◌, Bool, true, false, cond, not, eqb, ◌⊎◌, List, [], ◌∷◌, ◌++◌, length, get_or, sym, refl, ap, ◌∙◌, subst, inl, inr, arith}
+use Rattle.std.proofs.Common.{◌≡◌, ℕ, zero, suc, ◌-◌, ◌<◌, ◌≤◌, Bool, true, false, cond, not, eqb, ◌⊎◌, List, [], ◌∷◌, ◌++◌, length, get_or, sym, refl, ap, ◌∙◌, subst, inl, inr, arith}
 use mathlib.Core.List.{map-map}
 use lib.ListN.{length-map}
 use Rattle.std.specs.List.{AllByRecursion as All}
 use Rattle.std.proofs.lemmas.List.{ext_get_or, get_or_at, length-append}
-use Rattle.std.proofs.lemmas.Bool.{eqb-true, eqb-false, eq-eqb, ne_eqb, cases_eq, cases_Bool, both_ways, or_parts, or_cases}
-use Rattle.std.proofs.lemmas.Bool.Decides.{nat_tests}
-use Rattle.cost.specs.Earliest.{Earliest, earliest}
+use Rattle.std.proofs.lemmas.Bool.{eqb-true, eq-eqb, ne_eqb, cases_eq, both_ways, or_cases}
+use Rattle.cost.specs.Earliest.{Earliest}
 use Rattle.cost.specs.Kind.{KindLaws}
 use Rattle.cost.specs.Lines.{line_le}
 use Rattle.cost.specs.declared.line.Line.{Line}
@@ -18,8 +17,8 @@ use Rattle.partition.specs.Joined.{renamed, joined}
 use Rattle.partition.specs.Names.{stands, groups}
 use Rattle.partition.proofs.Joins.{getD_joined, joined_groups, test_renamed}
 use Rattle.partition.proofs.Names.{name_of_name, name_stands, stands_is}
-use Rattle.search.specs.Certificate.{Side, separates, LeastCost, Traced, Certified}
-use Rattle.search.specs.Phases.{line_of, whole_order, phases, lines_of, side_at}
+use Rattle.search.specs.Certificate.{Side, separates, Traced, Certified}
+use Rattle.search.specs.Phases.{line_of, phases, lines_of, side_at}
 use Rattle.search.specs.Rows.{bit, marked_by, alone}
 use Rattle.search.specs.Split.{best_line, best_side}
 use Rattle.search.proofs.Divided.{marks_alike, divides_none}

@@ -7,7 +7,7 @@ use Rattle.cost.specs.declared.line.Line.{Line}
 use Rattle.partition.specs.Joined.{joined}
 use Rattle.partition.specs.Names.{groups, stands}
 use Rattle.partition.proofs.Joins.{joined_groups}
-use Rattle.search.specs.Phases.{line_of, whole_order, phases}
+use Rattle.search.specs.Phases.{whole_order, phases}
 use Rattle.search.specs.Rows.{alone}
 use Rattle.search.proofs.Arranged.{Ends, order_ends}
 use Rattle.search.proofs.Names.{Grouped, joined_grouped}

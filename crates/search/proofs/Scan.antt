@@ -1,9 +1,8 @@
 -- The loop that looks for the next name of an order. Assumes nothing.
-use Rattle.std.proofs.Common.{◌≡◌, ℕ, zero, suc, ◌+◌, ◌<◌, ◌≤◌, Bool, true, false, not, ◌⊎◌, List, [], length, get_or, filter, sym, refl, ap, ◌∙◌, subst, inl, inr, arith}
+use Rattle.std.proofs.Common.{◌≡◌, ℕ, zero, suc, ◌+◌, ◌<◌, ◌≤◌, Bool, true, false, not, List, [], length, filter, sym, refl, ap, ◌∙◌, subst, inl, inr, arith}
 use Rattle.std.specs.List.{range_with_len}
-use Rattle.std.proofs.lemmas.Bool.{cases_eq, cases_lt, both_ways, cond-false, and_parts}
+use Rattle.std.proofs.lemmas.Bool.{cases_lt, both_ways, cond-false}
 use Rattle.cost.specs.Kind.{KindLaws}
-use Rattle.partition.specs.Names.{stands}
 use Rattle.search.specs.Order.{beats, next, first_unbeaten}
 use Rattle.search.specs.Rows.{added, alone, unordered}
 use Rattle.search.proofs.Arranged.{beats_rank}

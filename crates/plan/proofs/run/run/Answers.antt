@@ -1,9 +1,8 @@
-use Rattle.std.proofs.Common.{◌≡◌, ℕ, ◌<◌, List, length, get_or, take, sym, refl, ap, ◌∙◌, subst, arith}
+use Rattle.std.proofs.Common.{◌≡◌, ℕ, List, length, get_or, take, sym, ap, ◌∙◌, subst}
 use Rattle.std.proofs.lemmas.List.FromFn.{length-range_with_len}
-use Rattle.partition.specs.Names.{names_of, sizes_of, singles}
+use Rattle.partition.specs.Names.{names_of, singles}
 use Rattle.plan.specs.Runs.{Certain, Done, calls_of, sizes}
 use Rattle.plan.specs.Standing.{after, standing_after, standing_of}
-use Rattle.plan.specs.declared.call.Step.{Step}
 use Rattle.plan.proofs.Records.{stands_new, stands_whole, sizes_are}
 use Rattle.plan.proofs.run.run.Goals as goal
 

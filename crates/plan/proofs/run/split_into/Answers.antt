@@ -1,4 +1,4 @@
-use Rattle.std.proofs.Common.{◌≡◌, ℕ, ◌-◌, List, length, take, IfOk, Ok, vec_items, Result, sym, refl, ap, ◌∙◌, subst, ap₂, subst₂, arith}
+use Rattle.std.proofs.Common.{◌≡◌, ℕ, ◌-◌, List, take, IfOk, Ok, Result, sym, ap, ◌∙◌, subst, ap₂, subst₂, arith}
 use Rattle.std.proofs.lemmas.List.{with_items_is}
 use Rattle.cost.specs.declared.line.Line.{Line}
 use Rattle.partition.specs.Names.{names_of}

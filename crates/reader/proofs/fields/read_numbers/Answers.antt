@@ -1,7 +1,7 @@
-use Rattle.std.proofs.Common.{◌≡◌, ◌<◌, ◌≤◌, [], length, sym, refl, ap, ◌∙◌, arith, true-eqb, false-eqb}
+use Rattle.std.proofs.Common.{◌<◌, ◌≤◌, [], length, refl, arith, true-eqb, false-eqb}
 use Rattle.std.proofs.lemmas.Result.{err_from_is_err_and}
 use Rattle.figure.proofs.Cutting.{whole_first}
-use Rattle.reader.proofs.Fielded.{Fielded, fielded_more, fielded_stops, fielded_all}
+use Rattle.reader.proofs.Fielded.{fielded_more, fielded_stops, fielded_all}
 use Rattle.reader.proofs.fields.read_numbers.Goals as goal
 
 pub loop-left-init : goal.loop-left-init

@@ -1,5 +1,4 @@
-use Rattle.std.proofs.Common.{◌≡◌, ℕ, ◌+◌, ◌%◌, ◌≤◌, List, [], length}
-use Rattle.figure.specs.Cut.{numbers, pieces}
+use Rattle.std.proofs.Common.{length}
 use Rattle.reader.proofs.Fielded.{Fielded}
 use Rattle.reader.proofs.fields.read_numbers.Given as goal
 

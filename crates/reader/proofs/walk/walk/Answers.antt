@@ -1,7 +1,5 @@
-use Rattle.std.proofs.Common.{arith}
 use Rattle.std.proofs.lemmas.Result.{err_from_is_err_and}
 use Rattle.std.proofs.lemmas.Option.{MatchOption-at_some}
-use Rattle.figure.specs.Tables.{tables}
 use Rattle.reader.proofs.Walks.{walked_stopped, walked_on}
 use Rattle.reader.proofs.walk.walk.Goals as goal
 

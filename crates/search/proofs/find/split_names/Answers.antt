@@ -1,4 +1,4 @@
-use Rattle.std.proofs.Common.{◌≡◌, ℕ, ◌-◌, ◌<◌, ◌≤◌, ◌++◌, length, drop, sym, refl, ap, ◌∙◌, subst, arith}
+use Rattle.std.proofs.Common.{ℕ, ◌-◌, ◌++◌, drop, sym, ap, ◌∙◌, arith}
 use Rattle.search.specs.Phases.{lines_of}
 use Rattle.search.proofs.Slots.{groups_low}
 use Rattle.search.proofs.Wholes.{whole_split}

@@ -1,4 +1,4 @@
-use Rattle.std.proofs.Common.{◌≡◌, sym, ◌∙◌, arith}
+use Rattle.std.proofs.Common.{sym, ◌∙◌, arith}
 use Rattle.search.proofs.Scan.{scan_all, scan_first, scan_passes, scan_keeps, scan_takes, scan_only, scan_test}
 use Rattle.search.proofs.order.next.Goals as goal
 use Rattle.search.proofs.order.next.Goals.{then-is_left+then-is_beaten, then-is_left+else-is_beaten, else-is_left}

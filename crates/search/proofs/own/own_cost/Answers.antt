@@ -1,4 +1,4 @@
-use Rattle.std.proofs.Common.{◌≡◌, ℕ, get_or, ap, ◌∙◌, arith}
+use Rattle.std.proofs.Common.{ℕ, get_or, ap, ◌∙◌, arith}
 use Rattle.cost.specs.declared.line.Line.{Line}
 use Rattle.search.proofs.Slots.{between_below}
 use Rattle.search.proofs.own.own_cost.Goals as goal

@@ -1,4 +1,4 @@
-use Rattle.std.proofs.Common.{◌≡◌, ◌<◌, sym, arith}
+use Rattle.std.proofs.Common.{arith}
 use Rattle.std.proofs.lemmas.Bool.{eq-eqb, ne_eqb}
 use Rattle.search.proofs.Owned.{owned_none, owned_passes, owned_writes, owned_all}
 use Rattle.search.proofs.Slots.{between_below}

@@ -1,4 +1,4 @@
-use Rattle.std.proofs.Common.{◌≡◌, ◌-◌, length, drop}
+use Rattle.std.proofs.Common.{◌≡◌, ◌-◌, drop}
 use Rattle.search.specs.Phases.{side_at}
 use Rattle.search.proofs.phases.mark_side.Given as goal
 

@@ -1,4 +1,3 @@
-use Rattle.std.proofs.Common.{arith}
 use Rattle.search.proofs.Filled.{row_added}
 use Rattle.search.proofs.rows.added_cost.Goals as goal
 

@@ -1,4 +1,3 @@
-use Rattle.std.proofs.Common.{arith}
 use Rattle.search.proofs.Filled.{row_alone}
 use Rattle.search.proofs.rows.alone_cost.Goals as goal
 
