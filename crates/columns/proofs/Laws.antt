@@ -2,7 +2,7 @@
 use Rattle.std.proofs.Common.{◌≡◌, ℕ, zero, suc, ◌+◌, ◌-◌, ◌^◌, ◌<◌, ◌≤◌, Bool, true, ◌||◌, eqb, List, [], ◌∷◌, ◌++◌, length, get_or, replicate, Ok, decimal, sym, refl, ap, ◌∙◌, subst, ⊎_elim, arith, length-append, rules}
 use lib.ListN.{length-replicate}
 use Rattle.std.specs.Char.{is_ascii_digit}
-use Rattle.std.specs.List.{AllByRecursion as All}
+use Rattle.std.specs.List.{AllByRecursion}
 use Rattle.std.specs.Str.{all_ascii_digits}
 use Rattle.std.proofs.lemmas.Fmt.{digits_decimal, digits_value-decimal, decimal_nonempty, first_decimal, decimal-digits_value, decimal_digit}
 use Rattle.std.proofs.ByRecursion.{All-append}
@@ -120,21 +120,21 @@ read_is_written bs v e =
 abbrev pub plain : ℕ → Bool
 plain b = eqb b 32 || is_ascii_digit b
 
-plain_digits : (ds : List ℕ) → all_ascii_digits ds ≡ true → All (λ b. plain b ≡ true) ds
+plain_digits : (ds : List ℕ) → all_ascii_digits ds ≡ true → AllByRecursion (λ b. plain b ≡ true) ds
 plain_digits [] h = tt
 plain_digits (d ∷ ds) h = (grind (arith, nat_tests), plain_digits ds (grind (arith, nat_tests)))
 
-plain_blanks : (k : ℕ) → All (λ b. plain b ≡ true) (replicate k 32)
+plain_blanks : (k : ℕ) → AllByRecursion (λ b. plain b ≡ true) (replicate k 32)
 plain_blanks zero = tt
 plain_blanks (suc k) = (refl, plain_blanks k)
 
-pub plain_field : (w v : ℕ) → v < 2 ^ 64 → All (λ b. plain b ≡ true) (field w v)
+pub plain_field : (w v : ℕ) → v < 2 ^ 64 → AllByRecursion (λ b. plain b ≡ true) (field w v)
 plain_field w v small = All-append (λ b. plain b ≡ true) (replicate (w - length (decimal v)) 32) (decimal v) (plain_blanks (w - length (decimal v))) (plain_digits (decimal v) (digits_decimal own v small))
 
 -- so none of them ends a line
-clean : (bs : List ℕ) → All (λ b. plain b ≡ true) bs → All (λ b. b ≡ 10 → ⊥) bs
+clean : (bs : List ℕ) → AllByRecursion (λ b. plain b ≡ true) bs → AllByRecursion (λ b. b ≡ 10 → ⊥) bs
 clean [] h = tt
 clean (b ∷ bs) h = let p = h.0 in (λ e. grind (arith, nat_tests), clean bs h.1)
 
-pub clean_field : (w v : ℕ) → v < 2 ^ 64 → All (λ b. b ≡ 10 → ⊥) (field w v)
+pub clean_field : (w v : ℕ) → v < 2 ^ 64 → AllByRecursion (λ b. b ≡ 10 → ⊥) (field w v)
 clean_field w v small = clean (field w v) (plain_field w v small)

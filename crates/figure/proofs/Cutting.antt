@@ -1,7 +1,7 @@
 -- Texts cut into rows, and lists cut into pieces. Assumes nothing.
 use Rattle.std.proofs.Common.{◌≡◌, ℕ, zero, suc, ◌+◌, ◌-◌, ◌%◌, ◌<◌, ◌≤◌, Bool, true, false, cond, eqb, List, [], ◌∷◌, ◌++◌, length, get_or, take, drop, sym, refl, ap, ◌∙◌, ⊎_elim, mod-eq_of_lt, add-one, arith, length-drop}
 use native.Mathlib.Nat.{mod-eq-sub-mod}
-use Rattle.std.specs.List.{AllByRecursion as All}
+use Rattle.std.specs.List.{AllByRecursion}
 use Rattle.std.proofs.lemmas.Bool.{cond-true, cond-false, eq-eqb, ne_eqb, eqb-true, cases_Bool, cases_lt}
 use Rattle.figure.specs.Cut.{onto, cut, pieces_by, pieces}
 
@@ -38,7 +38,7 @@ abbrev pub Inside : ℕ → Type 0
 Inside b = b ≡ 10 → ⊥
 
 -- a row at the front of a text is its first piece
-pub cut_row : (t rest : List ℕ) → All Inside t → cut (t ++ (10 ∷ rest)) ≡ t ∷ cut rest
+pub cut_row : (t rest : List ℕ) → AllByRecursion Inside t → cut (t ++ (10 ∷ rest)) ≡ t ∷ cut rest
 cut_row [] rest h = refl
 cut_row (b ∷ t) rest h = cond-false (eqb b 10) _ _ (ne_eqb b 10 h.0) ∙ ap (onto b) (cut_row t rest h.1)
 

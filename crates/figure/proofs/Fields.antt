@@ -1,7 +1,7 @@
 -- The numbers in a row's fields: what is read is what is written, and what is written is read back. Assumes nothing.
 use Rattle.std.proofs.Common.{◌≡◌, ℕ, zero, suc, ◌+◌, ◌-◌, ◌%◌, ◌^◌, ◌<◌, ◌≤◌, true, eqb, List, [], ◌∷◌, ◌++◌, map, length, take, drop, Ok, Err, sym, refl, ap, ◌∙◌, append_assoc, arith, length-append, length-drop}
 use native.Mathlib.Nat.{zero-mod, add-mod_left, pow-le-pow_right}
-use Rattle.std.specs.List.{flat_map, AllByRecursion as All}
+use Rattle.std.specs.List.{flat_map, AllByRecursion}
 use Rattle.std.proofs.lemmas.Fmt.{length-decimal-le}
 use Rattle.std.proofs.ByRecursion.{All-append}
 use Rattle.std.proofs.lemmas.List.{append-nil, take_at, drop_at, take-append-drop, length-take-le}
@@ -30,7 +30,7 @@ numbers_stop w r k f vs left some more e =
     ∙ ap (λ x. and_then (in_row r k x) (λ u. numbers r (k + 1) (vs ++ (u ∷ [])) (pieces w (drop w left)))) e
 
 -- whole pieces of a list are as long as they should be, and give the list back
-by_parts : (m w : ℕ) (xs : List ℕ) → 0 < w → length xs ≤ m → length xs % w ≡ 0 → All (λ p. length p ≡ w) (pieces_by m w xs) × (flat_map (λ p. p) (pieces_by m w xs) ≡ xs)
+by_parts : (m w : ℕ) (xs : List ℕ) → 0 < w → length xs ≤ m → length xs % w ≡ 0 → AllByRecursion (λ p. length p ≡ w) (pieces_by m w xs) × (flat_map (λ p. p) (pieces_by m w xs) ≡ xs)
 by_parts zero w [] some l e = (tt, refl)
 by_parts zero w (x ∷ xs) some l e = absurd (omega arith)
 by_parts (suc m) w [] some l e = (tt, refl)
@@ -41,7 +41,7 @@ by_parts (suc m) w (x ∷ xs) some l e =
     ((length-take-le w (x ∷ xs) le, rest.0), ap (λ y. take w (x ∷ xs) ++ y) rest.1 ∙ take-append-drop w (x ∷ xs))
 
 -- the pieces that are read as numbers are their fields
-numbers_parts : (w r k : ℕ) (vs acc : List ℕ) (ps : List (List ℕ)) → All (λ p. length p ≡ w) ps → numbers r k acc ps ≡ Ok vs → (us : List ℕ) × (vs ≡ acc ++ us) × (flat_map (λ p. p) ps ≡ flat_map (field w) us)
+numbers_parts : (w r k : ℕ) (vs acc : List ℕ) (ps : List (List ℕ)) → AllByRecursion (λ p. length p ≡ w) ps → numbers r k acc ps ≡ Ok vs → (us : List ℕ) × (vs ≡ acc ++ us) × (flat_map (λ p. p) ps ≡ flat_map (field w) us)
 numbers_parts w r k vs acc [] long e = ([], sym (ok_same e) ∙ sym (append-nil acc), refl)
 numbers_parts w r k vs acc (p ∷ ps) long e =
     let a = and_then_parts (in_row r k (number p)) (λ v. numbers r (k + 1) (acc ++ (v ∷ [])) ps) vs e in
@@ -80,21 +80,21 @@ module _ (w : ℕ) (low : 2 ≤ w) (high : w ≤ 19) where
   wide : (v : ℕ) → Small w v → length (field w v) ≡ w
   wide v s = length_field w v (small_word v s) (small_fits v s)
 
-  numbers_back : (r k : ℕ) (acc vs : List ℕ) → All (Small w) vs → numbers r k acc (map (field w) vs) ≡ Ok (acc ++ vs)
+  numbers_back : (r k : ℕ) (acc vs : List ℕ) → AllByRecursion (Small w) vs → numbers r k acc (map (field w) vs) ≡ Ok (acc ++ vs)
   numbers_back r k acc [] s = ap Ok (sym (append-nil acc))
   numbers_back r k acc (v ∷ vs) s =
       ap (λ x. and_then (in_row r k x) (λ u. numbers r (k + 1) (acc ++ (u ∷ [])) (map (field w) vs))) (written_reads_back w v (small_word v s.0) (small_fits v s.0))
       ∙ numbers_back r (k + 1) (acc ++ (v ∷ [])) vs s.1
       ∙ ap Ok (append_assoc acc (v ∷ []) vs)
 
-  pieces_back : (vs : List ℕ) → All (Small w) vs → pieces w (flat_map (field w) vs) ≡ map (field w) vs
+  pieces_back : (vs : List ℕ) → AllByRecursion (Small w) vs → pieces w (flat_map (field w) vs) ≡ map (field w) vs
   pieces_back [] s = refl
   pieces_back (v ∷ vs) s =
       let l = wide v s.0 in
       pieces_more w (field w v ++ flat_map (field w) vs) (omega arith) (omega (arith, length-append (field w v) (flat_map (field w) vs)))
       ∙ (λ i. take_at (field w v) (flat_map (field w) vs) w l i ∷ (ap (pieces w) (drop_at (field w v) (flat_map (field w) vs) w l) ∙ pieces_back vs s.1) i)
 
-  whole_back : (vs : List ℕ) → All (Small w) vs → length (flat_map (field w) vs) % w ≡ 0
+  whole_back : (vs : List ℕ) → AllByRecursion (Small w) vs → length (flat_map (field w) vs) % w ≡ 0
   whole_back [] s = zero-mod w
   whole_back (v ∷ vs) s =
       ap (λ n. n % w) (length-append (field w v) (flat_map (field w) vs) ∙ ap (λ n. n + length (flat_map (field w) vs)) (wide v s.0))
@@ -102,17 +102,17 @@ module _ (w : ℕ) (low : 2 ≤ w) (high : w ≤ 19) where
       ∙ whole_back vs s.1
 
   -- a letter before fields is opened
-  pub opened_back : (r l : ℕ) (vs : List ℕ) → All (Small w) vs → opened w r (l ∷ flat_map (field w) vs) ≡ Ok (l, flat_map (field w) vs)
+  pub opened_back : (r l : ℕ) (vs : List ℕ) → AllByRecursion (Small w) vs → opened w r (l ∷ flat_map (field w) vs) ≡ Ok (l, flat_map (field w) vs)
   opened_back r l vs s = cond-true (eqb (length (flat_map (field w) vs) % w) 0) (Ok (l, flat_map (field w) vs)) (Err (Length r)) (eq-eqb _ 0 (whole_back vs s))
 
   -- the fields that are written are read back
-  pub fields_back : (r : ℕ) (vs : List ℕ) → All (Small w) vs → numbers r 1 [] (pieces w (flat_map (field w) vs)) ≡ Ok vs
+  pub fields_back : (r : ℕ) (vs : List ℕ) → AllByRecursion (Small w) vs → numbers r 1 [] (pieces w (flat_map (field w) vs)) ≡ Ok vs
   fields_back r vs s = ap (numbers r 1 []) (pieces_back vs s) ∙ numbers_back r 1 [] vs s
 
-  fields_inside : (vs : List ℕ) → All (Small w) vs → All Inside (flat_map (field w) vs)
+  fields_inside : (vs : List ℕ) → AllByRecursion (Small w) vs → AllByRecursion Inside (flat_map (field w) vs)
   fields_inside [] s = tt
   fields_inside (v ∷ vs) s = All-append Inside (field w v) (flat_map (field w) vs) (clean_field w v (small_word v s.0)) (fields_inside vs s.1)
 
   -- a row at the front of a text is its first piece
-  pub cut_text : (l : ℕ) (vs rest : List ℕ) → Inside l → All (Small w) vs → cut (row_text w l vs ++ rest) ≡ (l ∷ flat_map (field w) vs) ∷ cut rest
+  pub cut_text : (l : ℕ) (vs rest : List ℕ) → Inside l → AllByRecursion (Small w) vs → cut (row_text w l vs ++ rest) ≡ (l ∷ flat_map (field w) vs) ∷ cut rest
   cut_text l vs rest i s = ap cut (append_assoc (l ∷ flat_map (field w) vs) (10 ∷ []) rest) ∙ cut_row (l ∷ flat_map (field w) vs) rest (i, fields_inside vs s)

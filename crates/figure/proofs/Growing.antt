@@ -2,7 +2,7 @@
 use Rattle.std.proofs.Common.{◌≡◌, ℕ, zero, suc, ◌+◌, ◌-◌, ◌%◌, ◌^◌, ◌<◌, ◌≤◌, true, ◌&&◌, eqb, ltb, leb, ◌⊎◌, List, [], ◌∷◌, ◌++◌, length, replicate, Ok, sym, refl, ap, ◌∙◌, subst, inl, inr, ⊎_elim, append_assoc, arith, length-append}
 use native.Mathlib.Nat.{zero-mod, add-mod_right}
 use lib.ListN.{length-replicate}
-use Rattle.std.specs.List.{flat_map, AllByRecursion as All}
+use Rattle.std.specs.List.{flat_map, AllByRecursion}
 use Rattle.std.proofs.ByRecursion.{All-append, All-weaker}
 use Rattle.std.proofs.lemmas.List.{append-nil, flat_map_more, length_push, nil_from_length}
 use Rattle.std.proofs.lemmas.Bool.{and_parts, cases_Bool, cond-false, eqb-true, leb-true, ltb-true}
@@ -186,7 +186,7 @@ body_grown w top c l vs s a =
     (⊎_elim (λ e. at letter_B e (row_grown w top c s vs)) (λ e. at letter_W e (weld_grown w top c s vs))))
     (letter_cases (header_of c) l a.place)
 
-zeros_small : (n : ℕ) → All (λ v. v < 2 ^ 0) (replicate n 0)
+zeros_small : (n : ℕ) → AllByRecursion (λ v. v < 2 ^ 0) (replicate n 0)
 zeros_small zero = tt
 zeros_small (suc n) = (omega arith, zeros_small n)
 

@@ -1,7 +1,7 @@
 -- The file of a sound content leads the reader, row by row, to that content. Assumes nothing.
 use Rattle.std.proofs.Common.{◌≡◌, ℕ, ◌+◌, ◌-◌, ◌^◌, ◌<◌, ◌≤◌, true, eqb, List, [], ◌∷◌, ◌++◌, get_or, refl, ap, ◌∙◌, subst, append_assoc, arith}
 use native.Mathlib.Nat.{pow-le-pow_right}
-use Rattle.std.specs.List.{flat_map, AllByRecursion as All}
+use Rattle.std.specs.List.{flat_map, AllByRecursion}
 use Rattle.std.proofs.ByRecursion.{All-weaker}
 use Rattle.std.proofs.lemmas.Bool.{cond_both, false≢true}
 use Rattle.columns.specs.Field.{field}
@@ -75,7 +75,7 @@ module _ (w top : ℕ) (low : 5 ≤ w) (high : w ≤ 19) (fits : top < 10 ^ (w -
       (λ e. cond_both (eqb l letter_C) _ _ Highs (λ e. (fits, fits))
       (λ e. cond_both (eqb l letter_B) _ _ Highs (λ e. (omega (arith, thousand), omega (arith, thousand))) (λ e. (omega (arith, thousand), omega (arith, thousand)))))
 
-  row_small : (s : Stage) (l : ℕ) (vs : List ℕ) → Few s → Accepted top s l vs → All (Small w) vs
+  row_small : (s : Stage) (l : ℕ) (vs : List ℕ) → Few s → Accepted top s l vs → AllByRecursion (Small w) vs
   row_small s l [] few a = tt
   row_small s l (v ∷ vs) few a =
       let g = rule_of top s l (v ∷ vs) in

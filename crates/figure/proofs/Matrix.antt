@@ -2,7 +2,7 @@
 use Rattle.std.proofs.Common.{◌≡◌, ℕ, zero, suc, ◌+◌, ◌-◌, ◌*◌, ◌/◌, ◌%◌, ◌^◌, ◌<◌, ◌≤◌, List, [], ◌∷◌, ◌++◌, map, length, get_or, replicate, sym, refl, ap, ◌∙◌, map-id, mul-le-mul_right, mod-eq_of_lt, mul_assoc, add_comm, one-mul, arith, pow-add}
 use native.Mathlib.Nat.{add-mul-mod_self_right, pow-le-pow_right, mod-one}
 use lib.Pow.{pow-lt, high, field, mod-pow-add}
-use Rattle.std.specs.List.{range_with_len, flat_map, AllByRecursion as All}
+use Rattle.std.specs.List.{range_with_len, flat_map, AllByRecursion}
 use Rattle.std.proofs.lemmas.List.FromFn.{map-range_with_len_more}
 use Rattle.std.proofs.lemmas.List.{flat_map_more}
 use Rattle.figure.specs.Content.{with_bits}
@@ -33,7 +33,7 @@ bit_more i c v s b = let q = mul-le-mul_right (2 ^ i) b in omega (arith, one-mul
 pub column_fits : (i c v : ℕ) → i < 64 → v ≤ 1 → c < 2 ^ i → c + v * 2 ^ i < 2 ^ 64
 column_fits i c v h b s = let le : i + 1 ≤ 64 = omega arith in let p = pow-le-pow_right {n = 2} (omega arith) le in omega (arith, bit_more i c v s b)
 
-pub columns_more : (i : ℕ) (cs vs : List ℕ) → length cs ≡ length vs → All (λ c. c < 2 ^ i) cs → All (λ v. v ≤ 1) vs → All (λ c. c < 2 ^ (i + 1)) (with_bits i cs vs)
+pub columns_more : (i : ℕ) (cs vs : List ℕ) → length cs ≡ length vs → AllByRecursion (λ c. c < 2 ^ i) cs → AllByRecursion (λ v. v ≤ 1) vs → AllByRecursion (λ c. c < 2 ^ (i + 1)) (with_bits i cs vs)
 columns_more i [] vs e s b = tt
 columns_more i (c ∷ cs) [] e s b = absurd (omega arith)
 columns_more i (c ∷ cs) (v ∷ vs) e s b = (bit_more i c v s.0 b.0, columns_more i cs vs (omega arith) s.1 b.1)
@@ -57,7 +57,7 @@ earlier_row i k (c ∷ cs) [] h = refl
 earlier_row i k (c ∷ cs) (v ∷ vs) h = (λ j. earlier_bit i k c v h j ∷ earlier_row i k cs vs h j)
 
 -- and is the newest one
-newest_row : (i : ℕ) (cs vs : List ℕ) → length cs ≡ length vs → All (λ c. c < 2 ^ i) cs → All (λ v. v ≤ 1) vs → bits_of i (with_bits i cs vs) ≡ vs
+newest_row : (i : ℕ) (cs vs : List ℕ) → length cs ≡ length vs → AllByRecursion (λ c. c < 2 ^ i) cs → AllByRecursion (λ v. v ≤ 1) vs → bits_of i (with_bits i cs vs) ≡ vs
 newest_row i [] [] e s b = refl
 newest_row i [] (v ∷ vs) e s b = absurd (omega arith)
 newest_row i (c ∷ cs) [] e s b = absurd (omega arith)
@@ -71,7 +71,7 @@ counting_more : (n : ℕ) → range_with_len 0 (n + 1) ≡ range_with_len 0 n ++
 counting_more n = sym (map-id (range_with_len 0 (n + 1))) ∙ map-range_with_len_more (λ x. x) 0 n n (omega arith) ∙ ap (λ xs. xs ++ (n ∷ [])) (map-id (range_with_len 0 n))
 
 -- the text of a matrix with a row more
-pub matrix_rows_more : (w i : ℕ) (cs vs : List ℕ) → length cs ≡ length vs → All (λ c. c < 2 ^ i) cs → All (λ v. v ≤ 1) vs → matrix_rows w (i + 1) (with_bits i cs vs) ≡ matrix_rows w i cs ++ row_text w letter_B vs
+pub matrix_rows_more : (w i : ℕ) (cs vs : List ℕ) → length cs ≡ length vs → AllByRecursion (λ c. c < 2 ^ i) cs → AllByRecursion (λ v. v ≤ 1) vs → matrix_rows w (i + 1) (with_bits i cs vs) ≡ matrix_rows w i cs ++ row_text w letter_B vs
 matrix_rows_more w i cs vs e s b =
     let f = λ (k : ℕ). row_text w letter_B (bits_of k (with_bits i cs vs)) in
     let g = λ (k : ℕ). row_text w letter_B (bits_of k cs) in
@@ -89,7 +89,7 @@ low_bits_more i (c ∷ cs) =
     let one : c % 2 ^ i + c / 2 ^ i % 2 * 2 ^ i ≡ c % 2 ^ (i + 1) = add_comm (c % 2 ^ i) (c / 2 ^ i % 2 * 2 ^ i) ∙ sym (mod-pow-add c 1 i) ∙ ap (λ n. c % 2 ^ n) (add_comm 1 i) in
     (λ j. one j ∷ low_bits_more i cs j)
 
-pub low_bits_all : (i : ℕ) (cs : List ℕ) → All (λ c. c < 2 ^ i) cs → low_bits i cs ≡ cs
+pub low_bits_all : (i : ℕ) (cs : List ℕ) → AllByRecursion (λ c. c < 2 ^ i) cs → low_bits i cs ≡ cs
 low_bits_all i [] s = refl
 low_bits_all i (c ∷ cs) s = (λ j. mod-eq_of_lt s.0 j ∷ low_bits_all i cs s.1 j)
 
@@ -98,6 +98,6 @@ low_bits_none [] = refl
 low_bits_none (c ∷ cs) = (λ j. mod-one c j ∷ low_bits_none cs j)
 
 -- the entries of a row are 0 or 1
-pub bits_small : (i : ℕ) (cs : List ℕ) → All (λ v. v ≤ 1) (bits_of i cs)
+pub bits_small : (i : ℕ) (cs : List ℕ) → AllByRecursion (λ v. v ≤ 1) (bits_of i cs)
 bits_small i [] = tt
 bits_small i (c ∷ cs) = (omega arith, bits_small i cs)

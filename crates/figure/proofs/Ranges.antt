@@ -1,6 +1,6 @@
 -- Numbers within their ranges. Assumes nothing.
 use Rattle.std.proofs.Common.{◌≡◌, ℕ, ◌+◌, ◌<◌, ◌≤◌, Bool, true, false, cond, leb, List, [], ◌∷◌, length, get_or, drop, Some, None, Option, sym, refl, ap, ◌∙◌, subst, add_assoc, arith}
-use Rattle.std.specs.List.{AllByRecursion as All}
+use Rattle.std.specs.List.{AllByRecursion}
 use Rattle.std.proofs.lemmas.List.{at_drop_more}
 use Rattle.std.proofs.lemmas.Bool.{and_from, and_parts, cond-true, cond-false, le-leb, leb-true}
 use Rattle.figure.specs.Rules.{within, stray, outside}
@@ -22,11 +22,11 @@ passed : (b : Bool) (o : Option ℕ) (k : ℕ) → cond b o (Some k) ≡ None �
 passed true o k e = (refl, e)
 passed false o k e = absurd (let z : ◌≡◌ {A = ℕ} 0 1 = cc in omega arith)
 
-stray_in : (g : Range) (k : ℕ) (vs : List ℕ) → stray g k vs ≡ None → All (In g) vs
+stray_in : (g : Range) (k : ℕ) (vs : List ℕ) → stray g k vs ≡ None → AllByRecursion (In g) vs
 stray_in g k [] e = tt
 stray_in g k (v ∷ vs) e = let a = passed (within g v) (stray g (k + 1) vs) k e in (within_in g v a.0, stray_in g (k + 1) vs a.1)
 
-stray_none : (g : Range) (k : ℕ) (vs : List ℕ) → All (In g) vs → stray g k vs ≡ None
+stray_none : (g : Range) (k : ℕ) (vs : List ℕ) → AllByRecursion (In g) vs → stray g k vs ≡ None
 stray_none g k [] h = refl
 stray_none g k (v ∷ vs) h = cond-true (within g v) (stray g (k + 1) vs) (Some k) (in_within g v h.0) ∙ stray_none g (k + 1) vs h.1
 
@@ -41,19 +41,19 @@ pub stray_at : (g : Range) (k : ℕ) (vs : List ℕ) (i : ℕ) → i < length vs
 stray_at g k vs i h t = at_drop_more (stray g k) vs i 0 h ∙ cond-false (within g (get_or vs i 0)) (stray g (k + 1) (drop (i + 1) vs)) (Some k) t
 
 -- none is outside: the first is in its range, and the others in theirs
-pub outside_in : (rule : Rule) (v : ℕ) (vs : List ℕ) → outside rule (v ∷ vs) ≡ None → In rule.first v × All (In rule.rest) vs
+pub outside_in : (rule : Rule) (v : ℕ) (vs : List ℕ) → outside rule (v ∷ vs) ≡ None → In rule.first v × AllByRecursion (In rule.rest) vs
 outside_in rule v vs e =
     let a = passed (within rule.first v) (stray rule.rest 2 vs) 1 e in
     (within_in rule.first v a.0, stray_in rule.rest 2 vs a.1)
 
-pub outside_none : (rule : Rule) (v : ℕ) (vs : List ℕ) → In rule.first v → All (In rule.rest) vs → outside rule (v ∷ vs) ≡ None
+pub outside_none : (rule : Rule) (v : ℕ) (vs : List ℕ) → In rule.first v → AllByRecursion (In rule.rest) vs → outside rule (v ∷ vs) ≡ None
 outside_none rule v vs a b = cond-true (within rule.first v) (stray rule.rest 2 vs) (Some 1) (in_within rule.first v a) ∙ stray_none rule.rest 2 vs b
 
 -- the same, of all the numbers, where one range holds for all
-pub outside_all : (rule : Rule) (vs : List ℕ) → rule.rest ≡ rule.first → outside rule vs ≡ None → All (In rule.first) vs
+pub outside_all : (rule : Rule) (vs : List ℕ) → rule.rest ≡ rule.first → outside rule vs ≡ None → AllByRecursion (In rule.first) vs
 outside_all rule [] s e = tt
-outside_all rule (v ∷ vs) s e = let a = outside_in rule v vs e in (a.0, subst (λ g. All (In g) vs) s a.1)
+outside_all rule (v ∷ vs) s e = let a = outside_in rule v vs e in (a.0, subst (λ g. AllByRecursion (In g) vs) s a.1)
 
-pub all_outside : (rule : Rule) (vs : List ℕ) → rule.rest ≡ rule.first → All (In rule.first) vs → outside rule vs ≡ None
+pub all_outside : (rule : Rule) (vs : List ℕ) → rule.rest ≡ rule.first → AllByRecursion (In rule.first) vs → outside rule vs ≡ None
 all_outside rule [] s h = refl
-all_outside rule (v ∷ vs) s h = outside_none rule v vs h.0 (subst (λ g. All (In g) vs) (sym s) h.1)
+all_outside rule (v ∷ vs) s h = outside_none rule v vs h.0 (subst (λ g. AllByRecursion (In g) vs) (sym s) h.1)

@@ -1,6 +1,6 @@
 -- A row is accepted if its letter, its numbers and its room are right. Assumes nothing.
 use Rattle.std.proofs.Common.{◌≡◌, ℕ, ◌+◌, ◌<◌, ◌≤◌, true, cond, ◌&&◌, leb, List, [], ◌∷◌, length, Some, None, Ok, Err, Option, refl, ap, ◌∙◌, subst}
-use Rattle.std.specs.List.{flat_map, AllByRecursion as All}
+use Rattle.std.specs.List.{flat_map, AllByRecursion}
 use Rattle.std.proofs.lemmas.Bool.{and_from, and_parts, cond-true, le-leb, leb-true}
 use Rattle.columns.specs.Field.{field}
 use Rattle.figure.specs.Cut.{and_then, cut, opened, numbers, pieces}
@@ -55,7 +55,7 @@ row_parts w top r s text o some e =
     (split.0 ∙ ap (λ x. a.0.0 ∷ x) (fields_read w r a.0.1 c.0 some split.1 c.1), d.0)
 
 -- the text of an accepted row is read as that row
-pub row_back : (w top r : ℕ) (s : Stage) (l : ℕ) (vs : List ℕ) → 2 ≤ w → w ≤ 19 → All (Small w) vs → Accepted top s l vs → row_of w top r s (l ∷ flat_map (field w) vs) ≡ Ok (l, vs)
+pub row_back : (w top r : ℕ) (s : Stage) (l : ℕ) (vs : List ℕ) → 2 ≤ w → w ≤ 19 → AllByRecursion (Small w) vs → Accepted top s l vs → row_of w top r s (l ∷ flat_map (field w) vs) ≡ Ok (l, vs)
 row_back w top r s l vs low high small a =
     let rule = rule_of top s l vs in
     ap (λ x. and_then x (λ o. cond (in_place s o.0) (and_then (numbers r 1 [] (pieces w o.1)) (λ us. and_then (judged r (rule_of top s o.0 us) us) (roomed r s o.0))) (Err (Letter r)))) (opened_back w low high r l vs small)

@@ -1,7 +1,7 @@
 -- A content that rows have made so far: all that a file must be but whole. Assumes nothing.
 use Rattle.std.proofs.Common.{◌≡◌, ℕ, ◌*◌, ◌%◌, ◌^◌, ◌<◌, ◌≤◌, Bool, true, false, cond, not, ◌&&◌, eqb, ltb, leb, List, [], ◌∷◌, length, refl, ap, ◌∙◌}
 use native.Mathlib.Nat.{zero-mod, mul-mod_left}
-use Rattle.std.specs.List.{AllByRecursion as All}
+use Rattle.std.specs.List.{AllByRecursion}
 use Rattle.std.proofs.lemmas.Bool.{and_from, and_parts, eqb-true, le-leb, leb-true, lt-ltb, ltb-true}
 use Rattle.measure.specs.Lists.{every}
 use Rattle.figure.specs.Content.{Content}
@@ -22,19 +22,19 @@ pub record Sound (top : ℕ) (c : Content) : Type 0 where
   pub rows_few : c.rows ≤ 64
   pub welds_few : length c.welds ≤ 200
   pub nets_follow : follow top 0 c.nets (length c.pins) ≡ true
-  pub pins_in : All (λ v. v < c.n) c.pins
+  pub pins_in : AllByRecursion (λ v. v < c.n) c.pins
   pub table_rows : length c.closeness % c.n ≡ 0
-  pub table_in : All (λ v. v ≤ top) c.closeness
+  pub table_in : AllByRecursion (λ v. v ≤ top) c.closeness
   pub columns_all : length c.columns ≡ c.n
-  pub columns_in : All (λ v. v < 2 ^ c.rows) c.columns
-  pub welds_in : All (λ x. (x.a < c.n) × (x.b < c.n)) c.welds
+  pub columns_in : AllByRecursion (λ v. v < 2 ^ c.rows) c.columns
+  pub welds_in : AllByRecursion (λ x. (x.a < c.n) × (x.b < c.n)) c.welds
 
 module _ {X : Type 0} (p : X → Bool) (P : X → Type 0) where
-  every_all : ((x : X) → p x ≡ true → P x) → (xs : List X) → every p xs ≡ true → All P xs
+  every_all : ((x : X) → p x ≡ true → P x) → (xs : List X) → every p xs ≡ true → AllByRecursion P xs
   every_all f [] h = tt
   every_all f (x ∷ xs) h = let a = and_parts (p x) (every p xs) h in (f x a.0, every_all f xs a.1)
 
-  all_every : ((x : X) → P x → p x ≡ true) → (xs : List X) → All P xs → every p xs ≡ true
+  all_every : ((x : X) → P x → p x ≡ true) → (xs : List X) → AllByRecursion P xs → every p xs ≡ true
   all_every f [] h = refl
   all_every f (x ∷ xs) h = and_from (p x) (every p xs) (f x h.0) (all_every f xs h.1)
 

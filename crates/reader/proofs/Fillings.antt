@@ -1,6 +1,6 @@
 -- Rows laid into tables fill their fronts with the content that the rows make. Assumes nothing.
 use Rattle.std.proofs.Common.{◌≡◌, ℕ, ◌+◌, ◌-◌, ◌*◌, ◌%◌, ◌^◌, ◌<◌, ◌≤◌, Bool, true, false, cond, eqb, List, [], ◌∷◌, ◌++◌, length, get_or, drop, set, Ok, Err, Result, sym, refl, ap, ◌∙◌, subst, ap₂, ⊎_elim, mod-eq_of_lt, arith}
-use Rattle.std.specs.List.{AllByRecursion as All}
+use Rattle.std.specs.List.{AllByRecursion}
 use Rattle.std.proofs.ByRecursion.{All-weaker}
 use Rattle.std.proofs.lemmas.Bool.{ltb-true}
 use Rattle.std.proofs.lemmas.List.{append_assoc, drop_at, drop-drop, get_or_at, length-append, length-drop, length_push, set_at, take_at}
@@ -63,7 +63,7 @@ bit_added : (i c v : ℕ) → i < 64 → v ≤ 1 → c < 2 ^ i → plus_bit i c 
 bit_added i c v few one low =
     ap (λ m. (c + m) % 2 ^ 64) (mod-eq_of_lt (shifted i v few one)) ∙ mod-eq_of_lt (column_fits i c v few one low)
 
-bits_laid : (i : ℕ) (front cs vs rest : List ℕ) → i < 64 → length cs ≡ length vs → All (λ c. c < 2 ^ i) cs → All (λ v. v ≤ 1) vs → add_bits i (length front) vs (front ++ (cs ++ rest)) ≡ front ++ (with_bits i cs vs ++ rest)
+bits_laid : (i : ℕ) (front cs vs rest : List ℕ) → i < 64 → length cs ≡ length vs → AllByRecursion (λ c. c < 2 ^ i) cs → AllByRecursion (λ v. v ≤ 1) vs → add_bits i (length front) vs (front ++ (cs ++ rest)) ≡ front ++ (with_bits i cs vs ++ rest)
 bits_laid i front [] [] rest few same low ones = refl
 bits_laid i front [] (v ∷ vs) rest few same low ones = absurd (omega arith)
 bits_laid i front (c ∷ cs) [] rest few same low ones = absurd (omega arith)
@@ -98,7 +98,7 @@ module _ (top : ℕ) (c : Content) (t : Tables) (s : Sound top c) (vs : List ℕ
 
   row_laid : Accepted top (Body (header_of c)) letter_B vs → laid (header_of c) letter_B vs (filled c t) ≡ filled (placed c letter_B vs) t
   row_laid a =
-      let ones : All (λ v. v ≤ 1) vs = All-weaker (In (range 0 1)) (λ v. v ≤ 1) (λ v h. h.1) vs (outside_all (rule c.n c.n (range 0 1) (range 0 1)) vs refl a.ranges) in
+      let ones : AllByRecursion (λ v. v ≤ 1) vs = All-weaker (In (range 0 1)) (λ v. v ≤ 1) (λ v h. h.1) vs (outside_all (rule c.n c.n (range 0 1) (range 0 1)) vs refl a.ranges) in
       let same : length c.columns ≡ length vs = s.columns_all ∙ omega (arith, a.fewest, a.most) in
       ap (λ x. tables (over c.nets t.nets) (over c.pins t.pins) (over c.closeness t.closeness) x (over c.welds t.welds))
       (bits_laid c.rows [] c.columns vs (drop (length c.columns) t.columns) (ltb-true c.rows 64 a.room) same s.columns_in ones

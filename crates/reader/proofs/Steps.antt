@@ -1,6 +1,6 @@
 -- What an accepted row gives the steps of the reader. Assumes nothing.
 use Rattle.std.proofs.Common.{◌≡◌, ℕ, ◌+◌, ◌-◌, ◌*◌, ◌≤◌, ltb, leb, List, [], ◌∷◌, length, get_or, drop, sym, refl, subst, ⊎_elim, mul-le-mul, arith}
-use Rattle.std.specs.List.{AllByRecursion as All}
+use Rattle.std.specs.List.{AllByRecursion}
 use Rattle.std.proofs.ByRecursion.{All-get_or}
 use Rattle.std.proofs.lemmas.Bool.{and_parts, leb-true, ltb-true}
 use Rattle.figure.specs.Rules.{letter_N, letter_C, letter_B, letter_W, range, rule}
@@ -15,11 +15,11 @@ use Rattle.reader.specs.Laid.{counted, moved}
 
 module _ (top : ℕ) (h : Header) where
   -- what the row's rule says, letter by letter
-  net_parts : (vs : List ℕ) → Accepted top (Body h) letter_N vs → (1 ≤ length vs) × (get_or vs 0 0 ≤ top) × All (In (range 0 (h.n - 1))) (drop 1 vs)
+  net_parts : (vs : List ℕ) → Accepted top (Body h) letter_N vs → (1 ≤ length vs) × (get_or vs 0 0 ≤ top) × AllByRecursion (In (range 0 (h.n - 1))) (drop 1 vs)
   net_parts [] a = absurd (omega (arith, a.fewest))
   net_parts (v ∷ vs) a = let p = outside_in (rule 2 81 (range 0 top) (range 0 (h.n - 1))) v vs a.ranges in (omega arith, p.0.1, p.1)
 
-  entries_in : (vs : List ℕ) → Accepted top (Body h) letter_C vs → All (In (range 0 top)) vs
+  entries_in : (vs : List ℕ) → Accepted top (Body h) letter_C vs → AllByRecursion (In (range 0 top)) vs
   entries_in vs a = outside_all (rule h.n h.n (range 0 top) (range 0 top)) vs refl a.ranges
 
   pub accepted_fits : (l : ℕ) (vs : List ℕ) → top ≤ 4294967295 → Bounded h → Accepted top (Body h) l vs → Fit h l vs

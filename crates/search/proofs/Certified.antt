@@ -2,7 +2,7 @@
 use Rattle.std.proofs.Common.{◌≡◌, ℕ, zero, suc, ◌-◌, ◌<◌, ◌≤◌, Bool, true, false, cond, not, eqb, ◌⊎◌, List, [], ◌∷◌, ◌++◌, length, get_or, sym, refl, ap, ◌∙◌, subst, inl, inr, arith}
 use mathlib.Core.List.{map-map}
 use lib.ListN.{length-map}
-use Rattle.std.specs.List.{AllByRecursion as All}
+use Rattle.std.specs.List.{AllByRecursion}
 use Rattle.std.proofs.lemmas.List.{ext_get_or, get_or_at, length-append}
 use Rattle.std.proofs.lemmas.Bool.{eqb-true, eq-eqb, ne_eqb, cases_eq, both_ways, or_cases}
 use Rattle.cost.specs.Earliest.{Earliest}
@@ -116,7 +116,7 @@ module _ {C X : Type 0} (amount : C → X) (plus : X → X → X) (le : X → X 
     pub line : Line C
     pub after : List (Line C)
     pub listed : lines ≡ before ++ (line ∷ after)
-    pub earlier : All (λ l. separates row l.t l.u ≡ false) before
+    pub earlier : AllByRecursion (λ l. separates row l.t l.u ≡ false) before
     pub separated : separates row line.t line.u ≡ true
     pub cheap : le (amount line.cost) x ≡ true
 
@@ -168,14 +168,14 @@ module _ {C X : Type 0} (amount : C → X) (plus : X → X → X) (le : X → X 
 
   -- the pairs of the lines are parts
   parts : (k : ℕ) (names : List ℕ) → Grouped n names → groups names ≡ suc k →
-      All (λ l. (l.t < n) × (l.u < n)) (phases amount plus le price k names)
+      AllByRecursion (λ l. (l.t < n) × (l.u < n)) (phases amount plus le price k names)
   parts zero names grouped g = tt
   parts (suc k) names grouped g =
       let arr = order_arranged grouped amount plus le price laws k g in
       let t = arr.t in
       let u = arr.u in
       let (ts, us, ne, _) = ends grouped amount plus le price laws _ arr in
-      subst (λ ordered. All (λ l. (l.t < n) × (l.u < n)) (line_of amount plus le price names ordered ∷ phases amount plus le price k (joined (get_or ordered 1 0) (get_or ordered 0 0) names)))
+      subst (λ ordered. AllByRecursion (λ l. (l.t < n) × (l.u < n)) (line_of amount plus le price names ordered ∷ phases amount plus le price k (joined (get_or ordered 1 0) (get_or ordered 0 0) names)))
       (sym arr.ordered_is) (
         (omega (arith, standing_part grouped t ts, grouped.size), omega (arith, standing_part grouped u us, grouped.size)),
         parts k (joined t u names) (joined_grouped grouped t u ts us ne) (omega (arith, joined_groups names grouped.named t u ts us ne)),
@@ -257,6 +257,6 @@ module _ {C X : Type 0} (amount : C → X) (plus : X → X → X) (le : X → X 
       divides = holds.0;
       priced = refl;
       least = record { side = best_side amount plus le price names; side_is = holds.0; reached = refl; least = lower };
-      parts = subst (λ m. All (λ l. (l.t < m) × (l.u < m)) lines) (sym grouped.size) (parts (groups names - 1) names grouped counted);
+      parts = subst (λ m. AllByRecursion (λ l. (l.t < m) × (l.u < m)) lines) (sym grouped.size) (parts (groups names - 1) names grouped counted);
       traced = trace;
     }

@@ -1,6 +1,6 @@
 -- The certificate: what a division is worth. `names` gives each part the name of its group. Assumes nothing.
 use Rattle.std.specs.Prelude.{◌≡◌, ℕ, ◌<◌, Bool, true, false, cond, not, ◌&&◌, List, ◌∷◌, ◌++◌, length, ◌==◌, slice_index}
-use Rattle.std.specs.List.{range_with_len, AllByRecursion as All}
+use Rattle.std.specs.List.{range_with_len, AllByRecursion}
 use Rattle.cost.specs.declared.line.Line.{Line}
 use Rattle.measure.specs.Lists.{any}
 use Rattle.measure.specs.Rows.{Row, marks}
@@ -42,7 +42,7 @@ module _ {C X : Type 0} (amount : C → X) (le : X → X → Bool) (price : List
     pub line : Line C
     pub after : List (Line C)
     pub listed : lines ≡ before ++ (line ∷ after)
-    pub earlier : All (λ l. separates row l.t l.u ≡ false) before
+    pub earlier : AllByRecursion (λ l. separates row l.t l.u ≡ false) before
     pub separated : separates row line.t line.u ≡ true
     pub cheap : le (amount line.cost) (amount (price row)) ≡ true
 
@@ -51,5 +51,5 @@ module _ {C X : Type 0} (amount : C → X) (le : X → X → Bool) (price : List
     pub divides : Side names row
     pub priced : price row ≡ cost
     pub least : LeastCost cost
-    pub parts : All (λ l. (l.t < length names) × (l.u < length names)) lines
+    pub parts : AllByRecursion (λ l. (l.t < length names) × (l.u < length names)) lines
     pub traced : (side : List ℕ) → Side names side → Traced lines side
