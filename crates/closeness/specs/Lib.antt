@@ -1,5 +1,3 @@
 pub mod Cut
 pub mod Making
-pub mod Sound
-pub mod Laws
-pub mod Summed
+pub mod lemmas

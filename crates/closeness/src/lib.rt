@@ -2,5 +2,4 @@
 #![tactic(auto)]
 
 pub mod closeness;
-pub mod cut;
-pub mod making;
+mod table;

@@ -6,9 +6,9 @@ use lib.ListN.{length-replicate}
 use Rattle.std.proofs.lemmas.List.{drop_more, drop_all}
 use Rattle.std.proofs.lemmas.Nat.{shr-shr, pow_below}
 use Rattle.coder.specs.Rank.{side, rank}
-use Rattle.coder.specs.Closure.{Within, rank_by, step, rank_grows, rank_same, within_more, within_self, within_right, within_left, within_join, within_trans}
-use Rattle.coder.specs.Words.{spans, span_laws, spans_at, spans_zero, spans_cases, spans_sum, xor_cancel, next, xor_at, top, from_under, under}
-use Rattle.coder.specs.Independent.{rank_of_span}
+use Rattle.coder.specs.lemmas.Closure.{Within, rank_by, step, step_in, rank_grows, rank_same, within_more, within_self, within_right, within_left, within_join, within_trans}
+use Rattle.coder.specs.lemmas.Words.{spans, span_laws, spans_at, spans_zero, spans_cases, spans_sum, xor_cancel, next, xor_at, top, from_under, under}
+use Rattle.coder.specs.lemmas.Independent.{rank_of_span}
 
 -- each word is 0 or has the leading bit of its place, which at the last place is bit 0
 abbrev pub Placed : List ℕ → Type 0
@@ -99,10 +99,6 @@ within_set : (bs : List ℕ) (i w : ℕ) (xs : List ℕ) → get_or bs i 0 ≡ 0
 within_set [] i w xs z l v = absurd (omega arith)
 within_set (b ∷ bs) zero w xs z l v = (v.0, (spans_at xs 0 b (sym z) (spans_zero xs), v.1))
 within_set (b ∷ bs) (suc i) w xs z l v = let r = within_set bs i w xs z (omega arith) v.1 in (r.0, (v.0, r.1))
-
-step_in : (b : Bool) (n : ℕ) → T b → step b n ≡ n
-step_in true n t = refl
-step_in false n t = absurd t
 
 step_out : (b : Bool) (n : ℕ) → (T b → ⊥) → step b n ≡ suc n
 step_out true n f = absurd (f tt)

@@ -1,9 +1,4 @@
 pub mod Connectivity
 pub mod Making
 pub mod Rank
-pub mod ConnectivityLemmas
-pub mod Sides
-pub mod Closure
-pub mod Words
-pub mod Independent
-pub mod Sound
+pub mod lemmas

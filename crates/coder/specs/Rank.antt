@@ -1,6 +1,6 @@
 -- The rank of a side: the size of its largest independent subset. A column is a word, and bit i of it its entry in row i of the matrix. Assumes nothing.
 use Rattle.std.specs.Prelude.{ℕ, zero, suc, max, Bool, cond, not, ◌||◌, List, [], ◌∷◌, ◌++◌, map, length, ◌==◌, bit_xor}
-use Rattle.measure.specs.Lists.{every}
+use Rattle.std.specs.List.{list_all}
 
 -- the columns of the parts that a row marks
 abbrev pub side : {X : Type 0} → List X → List ℕ → List X
@@ -20,7 +20,7 @@ added (c ∷ columns) = bit_xor c (added columns)
 
 -- no nonempty subset adds up to all zeros
 abbrev pub independent : List ℕ → Bool
-independent columns = every (λ s. (length s == 0) || not (added s == 0)) (subsets columns)
+independent columns = list_all (λ s. (length s == 0) || not (added s == 0)) (subsets columns)
 
 -- the greatest f of an element
 abbrev pub greatest : {X : Type 0} → (X → ℕ) → List X → ℕ

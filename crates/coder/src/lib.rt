@@ -3,5 +3,4 @@
 
 pub mod coder;
 pub mod columns;
-pub mod making;
-pub mod rank;
+mod rank;

@@ -116,6 +116,12 @@ read_is_written bs v e =
     let n : length bs - length (decimal v) ≡ p.count = omega (arith, p.long, ap length d) in
     (room_fits (length bs) v (subst (λ k. Room (length bs) k) (sym (ap length d)) r), p.is ∙ (λ i. replicate (sym n i) 32 ++ sym d i))
 
+pub read_fits : (bs : List ℕ) (v : ℕ) → number bs ≡ Ok v → fits (length bs) v ≡ true
+read_fits bs v e = (read_is_written bs v e).0
+
+pub read_field : (bs : List ℕ) (v : ℕ) → number bs ≡ Ok v → bs ≡ field (length bs) v
+read_field bs v e = (read_is_written bs v e).1
+
 -- each byte of a field is a blank or a digit
 abbrev pub plain : ℕ → Bool
 plain b = eqb b 32 || is_ascii_digit b

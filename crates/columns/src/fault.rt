@@ -1,35 +1,33 @@
 // Why a field is not read, and why a number is not written.
-ghost use Rattle.std.specs.Prelude.{◌≡◌};
-ghost use Rattle.columns.specs.Faults.{field_number};
+ghost use Rattle.std.specs.Prelude.{◌≡◌, Some};
+ghost use Rattle.columns.specs.Faults.{field_number, field_fault_text, no_room_text};
 
+use std::error::Error;
 use std::fmt;
 
-#[derive(Clone, Copy)]
+#[derive(Clone, Copy, Debug, PartialEq, Eq)]
 pub enum FieldFault {
     // nothing but blanks
-    Blank,
+    Blank = 11,
     // a byte that is neither blank nor digit, or a blank after a digit
-    Stray,
+    Stray = 12,
     // a zero before further digits
-    LeadingZero,
+    LeadingZero = 13,
     // no column is left blank, or the field is wider than any
-    Full,
+    Full = 14,
 }
 
 impl FieldFault {
     pub fn number(self) -> u8
         ensures answer { result ≡ field_number self }
     {
-        match self {
-            FieldFault::Blank => 11,
-            FieldFault::Stray => 12,
-            FieldFault::LeadingZero => 13,
-            FieldFault::Full => 14,
-        }
+        self as u8
     }
 }
 
 impl fmt::Display for FieldFault {
+    ghost output = { λ fault. Some (field_fault_text fault) };
+
     fn fmt<W: fmt::Write>(&self, f: &mut fmt::Formatter<W>) -> fmt::Result {
         match self {
             FieldFault::Blank => write!(f, "11: the field is blank"),
@@ -43,6 +41,21 @@ impl fmt::Display for FieldFault {
     }
 }
 
+impl Error for FieldFault {}
+
 // The number has no room in the field, or the field lies outside the row.
-#[derive(Clone, Copy)]
+#[derive(Clone, Copy, Debug, PartialEq, Eq)]
 pub struct NoRoom;
+
+impl fmt::Display for NoRoom {
+    ghost output = { λ _. Some no_room_text };
+
+    fn fmt<W: fmt::Write>(&self, f: &mut fmt::Formatter<W>) -> fmt::Result {
+        write!(
+            f,
+            "the number has no room in the field, or the field lies outside the row"
+        )
+    }
+}
+
+impl Error for NoRoom {}

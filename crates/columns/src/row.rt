@@ -9,7 +9,8 @@ use crate::fault::NoRoom;
 use crate::width::fits;
 use crate::write::lay;
 
-// Lends the columns to the digit writer.
+// Lends the columns to the digit writer, by index: after a write through `get_mut` a proof knows only how many there are.
+#[tactic(auto, using(crate::proofs::Lending::lent))]
 fn lend(row: &mut [u8], at: usize, width: usize, v: u64)
     requires inside { at + width ≤ length row.old }
     requires some { 0 < width }
@@ -19,18 +20,13 @@ fn lend(row: &mut [u8], at: usize, width: usize, v: u64)
     lay(&mut row[at..at + width], v);
 }
 
-// A number in its columns is read back there.
-fn stands(row: &[u8], at: usize, width: usize, v: u64)
-    ensures back { places (length row.now) at width v ≡ true → number (between at (at + width) (placed row.now at width v)) ≡ Ok v }
-{}
-
 // Sets the number into so many columns from `at` on. All else in the row stays, and a refusal leaves it as it was.
+#[tactic(auto, using(crate::proofs::Lending::lent_reads_back))]
 pub fn put(row: &mut [u8], at: usize, width: usize, v: u64) -> Result<(), NoRoom>
     ensures answer { result ≡ settled (places (length row.old) at width v) }
     ensures after { row.new ≡ placed row.old at width v }
     ensures back { places (length row.old) at width v ≡ true → number (between at (at + width) row.new) ≡ Ok v }
 {
-    stands(row, at, width, v);
     if at > row.len() || width > row.len() - at || !fits(width, v) {
         return Err(NoRoom);
     }

@@ -9,23 +9,18 @@ const WIDEST: usize = 19;
 pub(crate) fn room(width: usize) -> usize
     ensures answer { result ≡ room width }
 {
-    if width == 0 || width > WIDEST {
-        return 0;
+    match width {
+        1..=WIDEST => width - 1,
+        _ => 0,
     }
-    width - 1
 }
 
+#[tactic(auto, using(crate::proofs::Counts::digits_by_power))]
 fn digit_count(v: u64) -> usize
     ensures answer { result ≡ length (decimal v) }
     ensures some { 0 < result }
 {
-    let mut count = 1;
-    let mut rest = v;
-    while rest >= 10 {
-        rest /= 10;
-        count += 1;
-    }
-    count
+    v.max(1).ilog10() as usize + 1
 }
 
 // Has the number room in a field of so many columns?

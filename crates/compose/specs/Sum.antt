@@ -1,5 +1,5 @@
 -- What a sum of two measures costs, and which sums are refused. Assumes nothing.
-use Rattle.std.specs.Prelude.{ℕ, ◌+◌, ◌*◌, Bool, cond, ◌&&◌, Some, None, Option, ◌==◌, nat_le}
+use Rattle.std.specs.Prelude.{ℕ, ◌+◌, ◌*◌, Bool, cond, ◌&&◌, Ok, Err, Result, ◌==◌, nat_le}
 use Rattle.cost.specs.Amounts.{highest, whole_amount}
 use Rattle.cost.specs.declared.whole.Whole.{Whole}
 use Rattle.measure.specs.declared.fault.MakingFault.{MakingFault}
@@ -17,10 +17,10 @@ abbrev pub adds : ℕ → ℕ → ℕ → ℕ → Whole → Whole → Bool
 adds n m p q s t = n == m && nat_le (sum_of p q s t).value highest
 
 -- the first fault, if there is one
-abbrev pub verdict : ℕ → ℕ → ℕ → ℕ → Whole → Whole → Option MakingFault
+abbrev pub verdict : ℕ → ℕ → ℕ → ℕ → Whole → Whole → Result (Unit {0}) MakingFault
 verdict n m p q s t =
     cond (n == m)
     (cond (multiplier_fits p && multiplier_fits q)
-    (cond (nat_le (sum_of p q s t).value highest) None (Some Ceiling))
-    (Some Multiplier))
-    (Some CountsDiffer)
+    (cond (nat_le (sum_of p q s t).value highest) (Ok tt) (Err Ceiling))
+    (Err Multiplier))
+    (Err CountsDiffer)

@@ -1,5 +1,5 @@
 -- What a tie of two measures costs, and which ties are refused. Assumes nothing.
-use Rattle.std.specs.Prelude.{ℕ, Bool, cond, Some, None, Option, ◌==◌}
+use Rattle.std.specs.Prelude.{ℕ, Bool, cond, Ok, Err, Result, ◌==◌}
 use Rattle.cost.specs.declared.pair.Pair.{Pair}
 use Rattle.cost.specs.declared.whole.Whole.{Whole}
 use Rattle.measure.specs.declared.fault.MakingFault.{MakingFault}
@@ -10,5 +10,5 @@ abbrev pub tied : Bool → Whole → Whole → Pair
 tied two a b = record { first = a; second = cond two b (record { value = 0 }) }
 
 -- the fault of measures of n and m parts, if there is one
-abbrev pub verdict : ℕ → ℕ → Option MakingFault
-verdict n m = cond (n == m) None (Some CountsDiffer)
+abbrev pub verdict : ℕ → ℕ → Result (Unit {0}) MakingFault
+verdict n m = cond (n == m) (Ok tt) (Err CountsDiffer)

@@ -1,34 +1,21 @@
 // A sum: p times one measure and q times another.
-ghost use Rattle.std.specs.Prelude.{◌≡◌, ◌*◌, ◌≤◌, true, ◌&&◌, if◌then◌else◌, Some, None, MatchResult};
-ghost use Rattle.cost.specs.Amounts.{whole_amount};
+ghost use Rattle.std.specs.Prelude.{◌≡◌, true, false, ◌&&◌, if◌then◌else◌, Ok, Err, MatchResult};
 ghost use Rattle.compose.specs.Sum.{adds, multiplier_fits, sum_of, verdict};
-ghost use Rattle.compose.specs.Sums.{adds_parts, sum_laws};
+ghost use Rattle.compose.specs.lemmas.Sums.{sum_fair};
 
 use cost::whole::{HIGHEST, Whole};
-use measure::fault::{MakingFault, RowFault};
+use measure::fault::{MakingFault, Refused, RowFault};
 use measure::measure::Measure;
 
 // The largest multiplier.
 const MOST: u64 = 1_000;
 
-// Where the part counts differ or the ceiling is above the highest cost, as no making leaves it, the sum is its first measure.
-#[derive(Drop)]
-pub struct Sum<A: Measure<Cost = Whole>, B: Measure<Cost = Whole>> {
-    pub(crate) first: A,
-    pub(crate) second: B,
+// p and q, each 1 to 1,000.
+#[derive(Clone, Copy)]
+pub(crate) struct Multipliers {
     pub(crate) p: u64,
     pub(crate) q: u64,
     ghost ranged: { (multiplier_fits p && multiplier_fits q) ≡ true },
-}
-
-// What a sum was to be made of, and why it is not.
-#[derive(Drop)]
-pub struct SumRefused<A, B> {
-    pub fault: MakingFault,
-    pub first: A,
-    pub second: B,
-    pub p: u64,
-    pub q: u64,
 }
 
 fn multiplier_fits(p: u64) -> bool
@@ -37,71 +24,74 @@ fn multiplier_fits(p: u64) -> bool
     1 <= p && p <= MOST
 }
 
-fn times(p: u64, cost: Whole) -> u64
-    requires fits { multiplier_fits p ≡ true }
-    ensures answer { result ≡ p * whole_amount cost }
-    ensures small { result ≤ 99999999999000 }
-{
-    p * cost.counted()
+impl Multipliers {
+    fn make(p: u64, q: u64) -> Result<Multipliers, MakingFault>
+        ensures cases { MatchResult result (λ by. ((multiplier_fits p && multiplier_fits q) ≡ true) × (by.p ≡ p) × (by.q ≡ q)) (λ e. ((multiplier_fits p && multiplier_fits q) ≡ false) × (e ≡ MakingFault.Multiplier)) }
+    {
+        if !multiplier_fits(p) || !multiplier_fits(q) {
+            return Err(MakingFault::Multiplier);
+        }
+        Ok(Multipliers { p, q })
+    }
+
+    fn sum_of(self, a: Whole, b: Whole) -> Whole
+        ensures answer { result ≡ sum_of self.p self.q a b }
+    {
+        Whole {
+            value: self.p * a.counted() + self.q * b.counted(),
+        }
+    }
 }
 
-fn sum_of(p: u64, q: u64, a: Whole, b: Whole) -> Whole
-    requires fit { (multiplier_fits p && multiplier_fits q) ≡ true }
-    ensures answer { result ≡ sum_of p q a b }
-{
-    Whole {
-        value: times(p, a) + times(q, b),
-    }
+// Where the part counts differ or the ceiling is above the highest cost, as no making leaves it, the sum is its first measure.
+#[derive(Drop)]
+pub struct Sum<A: Measure<Cost = Whole>, B: Measure<Cost = Whole>> {
+    pub(crate) first: A,
+    pub(crate) second: B,
+    pub(crate) by: Multipliers,
 }
 
-// Measures of n and m parts, with the ceilings s and t.
-fn judge(n: usize, m: usize, p: u64, q: u64, s: Whole, t: Whole) -> Option<MakingFault>
-    ensures answer { result ≡ verdict n m p q s t }
+// The multipliers, if the measures can be added by these.
+fn check<A: Measure<Cost = Whole>, B: Measure<Cost = Whole>>(
+    first: &A,
+    second: &B,
+    p: u64,
+    q: u64,
+) -> Result<Multipliers, MakingFault>
+    ensures cases { MatchResult result (λ by. (verdict (A.Measure.count first.now) (B.Measure.count second.now) p q (A.Measure.top first.now) (B.Measure.top second.now) ≡ Ok tt) × (by.p ≡ p) × (by.q ≡ q)) (λ e. verdict (A.Measure.count first.now) (B.Measure.count second.now) p q (A.Measure.top first.now) (B.Measure.top second.now) ≡ Err e) }
 {
-    if n != m {
-        return Some(MakingFault::CountsDiffer);
+    if first.parts() != second.parts() {
+        return Err(MakingFault::CountsDiffer);
     }
-    if !multiplier_fits(p) || !multiplier_fits(q) {
-        return Some(MakingFault::Multiplier);
-    }
-    let ceiling = sum_of(p, q, s, t);
+    let by = Multipliers::make(p, q)?;
+    let ceiling = by.sum_of(first.ceiling(), second.ceiling());
     if ceiling.value > HIGHEST {
-        return Some(MakingFault::Ceiling);
+        return Err(MakingFault::Ceiling);
     }
-    None
+    Ok(by)
 }
 
 impl<A: Measure<Cost = Whole>, B: Measure<Cost = Whole>> Sum<A, B> {
-    pub fn make(first: A, second: B, p: u64, q: u64) -> Result<Sum<A, B>, SumRefused<A, B>>
-        ensures cases { MatchResult result (λ s. (verdict (A.Measure.count first) (B.Measure.count second) p q (A.Measure.top first) (B.Measure.top second) ≡ None) × (s.first ≡ first) × (s.second ≡ second) × (s.p ≡ p) × (s.q ≡ q)) (λ e. (verdict (A.Measure.count first) (B.Measure.count second) p q (A.Measure.top first) (B.Measure.top second) ≡ Some e.fault) × (e.first ≡ first) × (e.second ≡ second) × (e.p ≡ p) × (e.q ≡ q)) }
+    pub fn make(first: A, second: B, p: u64, q: u64) -> Result<Sum<A, B>, Refused<(A, B, u64, u64)>>
+        ensures cases { MatchResult result (λ s. (verdict (A.Measure.count first) (B.Measure.count second) p q (A.Measure.top first) (B.Measure.top second) ≡ Ok tt) × (s.first ≡ first) × (s.second ≡ second) × (s.by.p ≡ p) × (s.by.q ≡ q)) (λ e. (verdict (A.Measure.count first) (B.Measure.count second) p q (A.Measure.top first) (B.Measure.top second) ≡ Err e.fault) × (e.given.0 ≡ first) × (e.given.1 ≡ second) × (e.given.2 ≡ p) × (e.given.3 ≡ q)) }
     {
-        let s = first.ceiling();
-        let t = second.ceiling();
-        match judge(first.parts(), second.parts(), p, q, s, t) {
-            Some(fault) => Err(SumRefused {
+        match check(&first, &second, p, q) {
+            Ok(by) => Ok(Sum { first, second, by }),
+            Err(fault) => Err(Refused {
                 fault,
-                first,
-                second,
-                p,
-                q,
-            }),
-            None => Ok(Sum {
-                first,
-                second,
-                p,
-                q,
+                given: (first, second, p, q),
             }),
         }
     }
 
     // Do both measures count?
     fn adds(&self) -> bool
-        ensures answer { result ≡ adds (A.Measure.count self.now.first) (B.Measure.count self.now.second) self.now.p self.now.q (A.Measure.top self.now.first) (B.Measure.top self.now.second) }
+        ensures answer { result ≡ adds (A.Measure.count self.now.first) (B.Measure.count self.now.second) self.now.by.p self.now.by.q (A.Measure.top self.now.first) (B.Measure.top self.now.second) }
     {
         if self.first.parts() != self.second.parts() {
             return false;
         }
-        let ceiling = sum_of(self.p, self.q, self.first.ceiling(), self.second.ceiling());
+        let ceiling = self.by.sum_of(self.first.ceiling(), self.second.ceiling());
         ceiling.value <= HIGHEST
     }
 }
@@ -111,19 +101,14 @@ impl<A: Measure<Cost = Whole>, B: Measure<Cost = Whole>> Measure for Sum<A, B> {
 
     ghost count = { λ s. A.Measure.count s.first };
 
-    ghost price = { λ s row. (if adds (A.Measure.count s.first) (B.Measure.count s.second) s.p s.q (A.Measure.top s.first) (B.Measure.top s.second) then sum_of s.p s.q (A.Measure.price s.first row) (B.Measure.price s.second row) else A.Measure.price s.first row) };
+    ghost price = { λ s row. (if adds (A.Measure.count s.first) (B.Measure.count s.second) s.by.p s.by.q (A.Measure.top s.first) (B.Measure.top s.second) then sum_of s.by.p s.by.q (A.Measure.price s.first row) (B.Measure.price s.second row) else A.Measure.price s.first row) };
 
-    ghost top = { λ s. (if adds (A.Measure.count s.first) (B.Measure.count s.second) s.p s.q (A.Measure.top s.first) (B.Measure.top s.second) then sum_of s.p s.q (A.Measure.top s.first) (B.Measure.top s.second) else A.Measure.top s.first) };
+    ghost top = { λ s. (if adds (A.Measure.count s.first) (B.Measure.count s.second) s.by.p s.by.q (A.Measure.top s.first) (B.Measure.top s.second) then sum_of s.by.p s.by.q (A.Measure.top s.first) (B.Measure.top s.second) else A.Measure.top s.first) };
 
     ghost fair = { λ s.
         let A' = A.Measure in
         let B' = B.Measure in
-        let n = A'.count s.first in
-        let m = B'.count s.second in
-        let t = A'.top s.first in
-        let u = B'.top s.second in
-        sum_laws (adds n m s.p s.q t u) s.p s.q n m (A'.price s.first) (B'.price s.second) t u
-        (A.Measure.fair s.first) (B.Measure.fair s.second) (adds_parts n m s.p s.q t u) };
+        sum_fair s.by.p s.by.q (A'.count s.first) (B'.count s.second) (A'.price s.first) (B'.price s.second) (A'.top s.first) (B'.top s.second) (A.Measure.fair s.first) (B.Measure.fair s.second) };
 
     fn parts(&self) -> usize {
         self.first.parts()
@@ -132,7 +117,7 @@ impl<A: Measure<Cost = Whole>, B: Measure<Cost = Whole>> Measure for Sum<A, B> {
     fn ceiling(&self) -> Whole {
         let first = self.first.ceiling();
         if self.adds() {
-            sum_of(self.p, self.q, first, self.second.ceiling())
+            self.by.sum_of(first, self.second.ceiling())
         } else {
             first
         }
@@ -144,6 +129,6 @@ impl<A: Measure<Cost = Whole>, B: Measure<Cost = Whole>> Measure for Sum<A, B> {
             return Ok(first);
         }
         let second = self.second.cost(row)?;
-        Ok(sum_of(self.p, self.q, first, second))
+        Ok(self.by.sum_of(first, second))
     }
 }

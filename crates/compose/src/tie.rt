@@ -1,12 +1,11 @@
 // A tie: two measures, the second of which decides between equals of the first.
-ghost use Rattle.std.specs.Prelude.{◌≡◌, cond, Some, None, MatchResult, ◌==◌};
+ghost use Rattle.std.specs.Prelude.{◌≡◌, Ok, Err, MatchResult, ◌==◌};
 ghost use Rattle.compose.specs.Tie.{tied, verdict};
-ghost use Rattle.std.proofs.lemmas.Bool.{eqb-true};
-ghost use Rattle.compose.specs.Ties.{tie_laws};
+ghost use Rattle.compose.specs.lemmas.Ties.{tie_fair};
 
 use cost::pair::Pair;
 use cost::whole::Whole;
-use measure::fault::{MakingFault, RowFault};
+use measure::fault::{MakingFault, Refused, RowFault};
 use measure::measure::Measure;
 
 const NOTHING: Whole = Whole { value: 0 };
@@ -18,36 +17,25 @@ pub struct Tie<A: Measure<Cost = Whole>, B: Measure<Cost = Whole>> {
     pub(crate) second: B,
 }
 
-// What a tie was to be made of, and why it is not.
-#[derive(Drop)]
-pub struct TieRefused<A, B> {
-    pub fault: MakingFault,
-    pub first: A,
-    pub second: B,
-}
-
-// Measures of n and m parts.
-fn judge(n: usize, m: usize) -> Option<MakingFault>
-    ensures answer { result ≡ verdict n m }
-{
-    if n != m {
-        return Some(MakingFault::CountsDiffer);
-    }
-    None
-}
-
 impl<A: Measure<Cost = Whole>, B: Measure<Cost = Whole>> Tie<A, B> {
-    pub fn make(first: A, second: B) -> Result<Tie<A, B>, TieRefused<A, B>>
-        ensures cases { MatchResult result (λ s. (verdict (A.Measure.count first) (B.Measure.count second) ≡ None) × (s.first ≡ first) × (s.second ≡ second)) (λ e. (verdict (A.Measure.count first) (B.Measure.count second) ≡ Some e.fault) × (e.first ≡ first) × (e.second ≡ second)) }
+    pub fn make(first: A, second: B) -> Result<Tie<A, B>, Refused<(A, B)>>
+        ensures cases { MatchResult result (λ s. (verdict (A.Measure.count first) (B.Measure.count second) ≡ Ok tt) × (s.first ≡ first) × (s.second ≡ second)) (λ e. (verdict (A.Measure.count first) (B.Measure.count second) ≡ Err e.fault) × (e.given.0 ≡ first) × (e.given.1 ≡ second)) }
     {
-        match judge(first.parts(), second.parts()) {
-            Some(fault) => Err(TieRefused {
-                fault,
-                first,
-                second,
-            }),
-            None => Ok(Tie { first, second }),
+        if first.parts() != second.parts() {
+            return Err(Refused {
+                fault: MakingFault::CountsDiffer,
+                given: (first, second),
+            });
         }
+        Ok(Tie { first, second })
+    }
+
+    // Do both measures count?
+    fn ties(&self) -> bool
+        ensures answer { result ≡ A.Measure.count self.now.first == B.Measure.count self.now.second }
+    {
+        let n = self.first.parts();
+        n == self.second.parts()
     }
 }
 
@@ -63,10 +51,7 @@ impl<A: Measure<Cost = Whole>, B: Measure<Cost = Whole>> Measure for Tie<A, B> {
     ghost fair = { λ s.
         let A' = A.Measure in
         let B' = B.Measure in
-        let n = A'.count s.first in
-        let m = B'.count s.second in
-        tie_laws (n == m) n m (A'.price s.first) (B'.price s.second) (A'.top s.first) (B'.top s.second) (eqb-true n m)
-        (A.Measure.fair s.first) (B.Measure.fair s.second) };
+        tie_fair (A'.count s.first) (B'.count s.second) (A'.price s.first) (B'.price s.second) (A'.top s.first) (B'.top s.second) (A.Measure.fair s.first) (B.Measure.fair s.second) };
 
     fn parts(&self) -> usize {
         self.first.parts()
@@ -74,7 +59,7 @@ impl<A: Measure<Cost = Whole>, B: Measure<Cost = Whole>> Measure for Tie<A, B> {
 
     fn ceiling(&self) -> Pair {
         let first = self.first.ceiling();
-        let second = if self.first.parts() == self.second.parts() {
+        let second = if self.ties() {
             self.second.ceiling()
         } else {
             NOTHING
@@ -84,7 +69,7 @@ impl<A: Measure<Cost = Whole>, B: Measure<Cost = Whole>> Measure for Tie<A, B> {
 
     fn cost(&self, row: &[u8]) -> Result<Pair, RowFault> {
         let first = self.first.cost(row)?;
-        let second = if self.first.parts() == self.second.parts() {
+        let second = if self.ties() {
             self.second.cost(row)?
         } else {
             NOTHING

@@ -1,6 +1,5 @@
--- The earliest smallest item: how the search for it goes on, and what its number means. Assumes nothing.
-use Rattle.std.proofs.Common.{◌≡◌, ℕ, zero, suc, ◌+◌, ◌-◌, ◌<◌, ◌≤◌, Bool, true, false, ◌⊎◌, List, [], ◌∷◌, length, get_or, drop, sym, refl, ap, ◌∙◌, inl, inr, add-one, arith, below_more}
-use Rattle.std.proofs.lemmas.List.{at_drop_more, at_drop_all}
+-- The earliest smallest item: what its number means. Assumes nothing.
+use Rattle.std.proofs.Common.{◌≡◌, ℕ, zero, suc, ◌+◌, ◌-◌, ◌<◌, ◌≤◌, Bool, true, false, ◌⊎◌, List, [], ◌∷◌, length, get_or, drop, refl, ap, ◌∙◌, inl, inr, add-one, arith, below_more}
 use Rattle.std.proofs.lemmas.Bool.{both_ways, cases_Bool, cond-true, cond-false}
 use Rattle.cost.specs.Earliest.{earliest_from, earliest, Earliest}
 
@@ -21,23 +20,6 @@ dropped_on items i x rest e = rw add-one (go items i e)
     go (y ∷ items) (suc i) e = go items i e
 
 module _ {A : Type 0} (le : A → A → Bool) where
-  -- one item on: it is smaller, or not
-  pub goes_on : (items : List A) (i number : ℕ) (smallest x : A) → i < length items → x ≡ get_or items i x → le smallest x ≡ true →
-      earliest_from le i number smallest (drop i items) ≡ earliest_from le (i + 1) number smallest (drop (i + 1) items)
-  goes_on items i number smallest x within read h =
-      at_drop_more (earliest_from le i number smallest) items i x within
-      ∙ cond-true _ _ _ (ap (le smallest) (sym read) ∙ h)
-
-  pub goes_smaller : (items : List A) (i number : ℕ) (smallest x : A) → i < length items → x ≡ get_or items i x → le smallest x ≡ false →
-      earliest_from le i number smallest (drop i items) ≡ earliest_from le (i + 1) (i + 1) x (drop (i + 1) items)
-  goes_smaller items i number smallest x within read h =
-      at_drop_more (earliest_from le i number smallest) items i x within
-      ∙ cond-false _ _ _ (ap (le smallest) (sym read) ∙ h)
-      ∙ ap (λ y. earliest_from le (i + 1) (i + 1) y (drop (i + 1) items)) (sym read)
-
-  pub goes_all : (items : List A) (i number : ℕ) (smallest : A) → length items ≤ i → earliest_from le i number smallest (drop i items) ≡ number
-  goes_all items i number smallest done = at_drop_all (earliest_from le i number smallest) items i done
-
   module _ (total : (a b : A) → (le a b ≡ true) ⊎ (le b a ≡ true)) (transitive : (a b c : A) → le a b ≡ true → le b c ≡ true → le a c ≡ true) where
     reflexive : (a : A) → le a a ≡ true
     reflexive a = elim (total a a) [ inl h ↦ h | inr h ↦ h ]

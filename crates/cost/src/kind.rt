@@ -3,6 +3,7 @@ ghost use Rattle.std.specs.Prelude.{◌≡◌, Bool};
 ghost use Rattle.cost.specs.Kind.{KindLaws};
 
 // A cost is a record; its amount is what it counts as. Sums of amounts need not be amounts of a cost.
+// The order is the amounts' and not the records', which may differ where the amounts are equal, so it is no `PartialOrd`.
 pub trait CostKind: Copy {
     ghost amounts: { Type 0 };
 

@@ -20,21 +20,20 @@ fn cheaper<C: CostKind>(line: Line<C>, least: Line<C>) -> bool
     !least.cost.at_most(line.cost)
 }
 
-// The number, from 1, of the earliest line of smallest cost; 0 where there is no line.
+// The number, from 1, of the earliest line of smallest cost; 0 where there is no line, as the rules of a search have it.
 pub fn earliest_line<C: CostKind>(lines: &[Line<C>]) -> usize
     ensures answer { result ≡ earliest (line_le C.CostKind.amount C.CostKind.le) lines.now }
     ensures earliest { Earliest (line_le C.CostKind.amount C.CostKind.le) lines.now result }
 {
-    let [first, ..] = lines else {
+    let [first, rest @ ..] = lines else {
         return 0;
     };
     let mut number = 1;
     let mut least = *first;
-    for i in 1..lines.len() {
-        let line = lines[i];
-        if cheaper(line, least) {
-            number = i + 1;
-            least = line;
+    for (i, line) in rest.iter().enumerate() {
+        if cheaper(*line, least) {
+            number = i + 2;
+            least = *line;
         }
     }
     number

@@ -1,9 +1,10 @@
 // Whole costs: 0 to 99,999,999,999.
-ghost use Rattle.std.specs.Prelude.{◌≡◌, ℕ, ◌+◌, nat_le};
+ghost use Rattle.std.specs.Prelude.{◌≡◌, ℕ, ◌+◌, nat_le, Some, decimal};
 ghost use Rattle.cost.specs.Amounts.{capped, whole_amount};
 ghost use Rattle.std.proofs.Common.{rules};
 
 use crate::kind::CostKind;
+use std::fmt;
 
 // The highest whole cost.
 pub const HIGHEST: u64 = 99_999_999_999;
@@ -20,6 +21,16 @@ impl Whole {
         ensures answer { result ≡ whole_amount self }
     {
         self.value.min(HIGHEST)
+    }
+}
+
+// Printed, it is the number that it counts as.
+impl fmt::Display for Whole {
+    ghost output = { λ w. Some (decimal (whole_amount w)) };
+
+    fn fmt<W: fmt::Write>(&self, f: &mut fmt::Formatter<W>) -> fmt::Result {
+        let amount = self.counted();
+        write!(f, "{amount}")
     }
 }
 

@@ -1,17 +1,5 @@
+use crate::samples::{pair, whole};
 use cost::kind::CostKind;
-use cost::pair::Pair;
-use cost::whole::Whole;
-
-fn whole(value: u64) -> Whole {
-    Whole { value }
-}
-
-fn pair(first: u64, second: u64) -> Pair {
-    Pair {
-        first: whole(first),
-        second: whole(second),
-    }
-}
 
 #[test]
 fn more_than_the_highest_counts_as_the_highest(rt: HostRuntime) {

@@ -1,12 +1,11 @@
 // Figures worked by hand, split under each measure and under measures made of measures.
+use crate::samples::{four, is_line, pair, whole};
 use closeness::closeness::Closeness;
 use coder::coder::Coder;
 use compose::fold::Fold;
 use compose::sum::Sum;
 use compose::tie::Tie;
 use cost::line::Line;
-use cost::pair::Pair;
-use cost::whole::Whole;
 use measure::measure::Measure;
 use nets::net::Net;
 use nets::nets::Nets;
@@ -14,90 +13,33 @@ use plan::plan::Plan;
 use std::alloc::Global;
 use std::test::Fail;
 
-const NONE: Whole = Whole { value: 0 };
-
-const NO_PAIR: Pair = Pair {
-    first: NONE,
-    second: NONE,
-};
-
 // The best line, the row, and both lines of a split of three parts.
-fn split<M: Measure<Cost = Whole> + Drop>(
-    measure: M,
-) -> Result<(usize, [u8; 3], Line<Whole>, Line<Whole>), Fail> {
+fn split<M: Measure + Drop>(measure: M) -> Result<(usize, [u8; 3], [Line<M::Cost>; 2]), Fail> {
     let mut row = [9u8; 3];
     let mut lines = [Line {
         t: 9,
         u: 9,
-        cost: NONE,
+        cost: measure.ceiling(),
     }; 2];
     let plan = Plan::new(measure);
-    match plan.split(&mut row, &mut lines) {
-        Ok(found) => Ok((found.best, row, lines[0], lines[1])),
-        Err(_) => Err(Fail::new("refused")),
-    }
-}
-
-// The same under pairs of costs.
-fn split_pair<M: Measure<Cost = Pair> + Drop>(
-    measure: M,
-) -> Result<(usize, [u8; 3], Line<Pair>, Line<Pair>), Fail> {
-    let mut row = [9u8; 3];
-    let mut lines = [Line {
-        t: 9,
-        u: 9,
-        cost: NO_PAIR,
-    }; 2];
-    let plan = Plan::new(measure);
-    match plan.split(&mut row, &mut lines) {
-        Ok(found) => Ok((found.best, row, lines[0], lines[1])),
-        Err(_) => Err(Fail::new("refused")),
-    }
-}
-
-fn is_line(line: Line<Whole>, t: u8, u: u8, cost: u64) -> bool {
-    line.t == t && line.u == u && line.cost.counted() == cost
-}
-
-fn is_pair(line: Line<Pair>, t: u8, u: u8, first: u64, second: u64) -> bool {
-    line.t == t
-        && line.u == u
-        && line.cost.first.counted() == first
-        && line.cost.second.counted() == second
+    let found = plan
+        .split(&mut row, &mut lines)
+        .map_err(|_| Fail::new("refused"))?;
+    Ok((found.best, row, lines))
 }
 
 // Three parts, a net of weight 1 between any two.
 fn triangle(heap: Global) -> Result<Nets, Fail> {
-    let nets = vec![in heap;
-        Net {
-            weight: 1,
-            first: 0,
-            count: 2
-        },
-        Net {
-            weight: 1,
-            first: 2,
-            count: 2
-        },
-        Net {
-            weight: 1,
-            first: 4,
-            count: 2
-        },
-    ]?;
+    let nets = vec![in heap; Net::new(1, 0, 2), Net::new(1, 2, 2), Net::new(1, 4, 2)]?;
     let pins = vec![in heap; 0u8, 1, 0, 2, 1, 2]?;
-    match Nets::make(3, nets, pins) {
-        Ok(made) => Ok(made),
-        Err(_) => Err(Fail::new("nets refused")),
-    }
+    Nets::make(3, nets, pins).map_err(|_| Fail::new("nets refused"))
 }
 
 // Parts 0 and 1 at 4, parts 0 and 2 at 1.
 fn near(heap: Global) -> Result<Closeness, Fail> {
-    match Closeness::make(3, vec![in heap; 0u32, 4, 1, 0, 0, 0, 0, 0, 0]?) {
-        Ok(made) => Ok(made),
-        Err(_) => Err(Fail::new("closeness refused")),
-    }
+    Closeness::make(3, vec![in heap; 0u32, 4, 1, 0, 0, 0, 0, 0, 0]?).map_err(|_| Fail::new(
+        "closeness refused",
+    ))
 }
 
 #[test]
@@ -105,9 +47,9 @@ fn columns_one_two_three(rt: HostRuntime) -> Result<(), Fail> {
     let Ok(coder) = Coder::make(3, 2, vec![in rt.alloc(); 1u64, 2, 3]?) else {
         return Err(Fail::new("coder refused"));
     };
-    let (best, _, first, second) = split(coder)?;
+    let (best, _, [first, second]) = split(coder)?;
     assert_eq!(rt; best, 1);
-    assert!(rt; is_line(first, 1, 2, 1) && is_line(second, 0, 1, 1));
+    assert!(rt; is_line(first, 1, 2, whole(1)) && is_line(second, 0, 1, whole(1)));
     Ok(())
 }
 
@@ -116,8 +58,8 @@ fn a_sum(rt: HostRuntime) -> Result<(), Fail> {
     let Ok(sum) = Sum::make(triangle(rt.alloc())?, near(rt.alloc())?, 2, 3) else {
         return Err(Fail::new("sum refused"));
     };
-    let (_, _, first, second) = split(sum)?;
-    assert!(rt; is_line(first, 1, 2, 7) && is_line(second, 0, 1, 19));
+    let (_, _, [first, second]) = split(sum)?;
+    assert!(rt; is_line(first, 1, 2, whole(7)) && is_line(second, 0, 1, whole(19)));
     Ok(())
 }
 
@@ -126,9 +68,9 @@ fn a_tie(rt: HostRuntime) -> Result<(), Fail> {
     let Ok(tie) = Tie::make(triangle(rt.alloc())?, near(rt.alloc())?) else {
         return Err(Fail::new("tie refused"));
     };
-    let (best, _, first, second) = split_pair(tie)?;
+    let (best, _, [first, second]) = split(tie)?;
     assert_eq!(rt; best, 1);
-    assert!(rt; is_pair(first, 1, 2, 2, 1) && is_pair(second, 0, 1, 2, 5));
+    assert!(rt; is_line(first, 1, 2, pair(2, 1)) && is_line(second, 0, 1, pair(2, 5)));
     Ok(())
 }
 
@@ -151,40 +93,11 @@ fn a_pile(rt: HostRuntime) -> Result<(), Fail> {
     let Ok(fold) = Fold::make(tie, vec![in heap; 0u8, 0, 1, 2]?, 3) else {
         return Err(Fail::new("fold refused"));
     };
-    let (best, row, first, second) = split_pair(fold)?;
+    let (best, row, [first, second]) = split(fold)?;
     assert_eq!(rt; best, 1);
     assert_eq!(rt; row, [0, 0, 1]);
-    assert!(rt; is_pair(first, 1, 2, 21, 3) && is_pair(second, 0, 1, 31, 2));
+    assert!(rt; is_line(first, 1, 2, pair(21, 3)) && is_line(second, 0, 1, pair(31, 2)));
     Ok(())
-}
-
-fn four(heap: Global) -> Result<Nets, Fail> {
-    let nets = vec![in heap;
-        Net {
-            weight: 3,
-            first: 0,
-            count: 2
-        },
-        Net {
-            weight: 1,
-            first: 2,
-            count: 2
-        },
-        Net {
-            weight: 2,
-            first: 4,
-            count: 2
-        },
-        Net {
-            weight: 1,
-            first: 6,
-            count: 3
-        },
-    ]?;
-    match Nets::make(4, nets, vec![in heap; 0u8, 1, 1, 2, 2, 3, 0, 2, 3]?) {
-        Ok(made) => Ok(made),
-        Err(_) => Err(Fail::new("nets refused")),
-    }
 }
 
 #[test]
@@ -192,9 +105,9 @@ fn a_fold(rt: HostRuntime) -> Result<(), Fail> {
     let Ok(fold) = Fold::make(four(rt.alloc())?, vec![in rt.alloc(); 0u8, 0, 1, 2]?, 3) else {
         return Err(Fail::new("fold refused"));
     };
-    let (best, row, first, second) = split(fold)?;
+    let (best, row, [first, second]) = split(fold)?;
     assert_eq!(rt; best, 2);
     assert_eq!(rt; row, [0, 1, 1]);
-    assert!(rt; is_line(first, 1, 2, 3) && is_line(second, 0, 1, 2));
+    assert!(rt; is_line(first, 1, 2, whole(3)) && is_line(second, 0, 1, whole(2)));
     Ok(())
 }

@@ -11,3 +11,5 @@ mod makings;
 mod nets_making;
 #[cfg(test)]
 mod nets_rows;
+#[cfg(test)]
+mod samples;

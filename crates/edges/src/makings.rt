@@ -1,34 +1,31 @@
 // The limits of the makings of closeness tables, coders and measures of measures.
+use crate::samples::refusal;
 use closeness::closeness::Closeness;
 use coder::coder::Coder;
 use coder::columns::Columns;
 use compose::fold::Fold;
 use compose::sum::Sum;
 use compose::tie::Tie;
-use cost::whole::Whole;
 use nets::net::Net;
 use nets::nets::Nets;
 use std::alloc::{AllocError, Global};
 use std::test::Fail;
 
-// The number of the refusal of a table of equal entries; 0 where the measure is made.
-fn near(heap: Global, parts: usize, entries: usize, entry: u32) -> Result<u8, AllocError> {
-    match Closeness::make(parts, vec![in heap; entry; entries]?) {
-        Ok(_) => Ok(0),
-        Err(refused) => Ok(refused.fault.number()),
-    }
+// The number of the refusal of a table of equal entries; None where the measure is made.
+fn near(heap: Global, parts: usize, entries: usize, entry: u32) -> Result<Option<u8>, AllocError> {
+    Ok(refusal(Closeness::make(parts, vec![in heap; entry; entries]?)))
 }
 
 #[test]
 fn closeness(rt: HostRuntime) -> Result<(), Fail> {
     let cases = [
-        (1, 1, 0, 51),
-        (2, 4, 999_999, 0),
-        (2, 4, 1_000_000, 54),
-        (2, 3, 1_000_000, 53),
-        (2, 5, 0, 53),
-        (80, 6_400, 999_999, 0),
-        (81, 6_561, 0, 51),
+        (1, 1, 0, Some(51)),
+        (2, 4, 999_999, None),
+        (2, 4, 1_000_000, Some(54)),
+        (2, 3, 1_000_000, Some(53)),
+        (2, 5, 0, Some(53)),
+        (80, 6_400, 999_999, None),
+        (81, 6_561, 0, Some(51)),
     ];
     for (parts, entries, entry, number) in cases {
         assert_eq!(rt; near(rt.alloc(), parts, entries, entry)?, number);
@@ -42,25 +39,22 @@ fn code(
     rows: usize,
     columns: usize,
     word: u64,
-) -> Result<u8, AllocError> {
-    match Coder::make(parts, rows, vec![in heap; word; columns]?) {
-        Ok(_) => Ok(0),
-        Err(refused) => Ok(refused.fault.number()),
-    }
+) -> Result<Option<u8>, AllocError> {
+    Ok(refusal(Coder::make(parts, rows, vec![in heap; word; columns]?)))
 }
 
 #[test]
 fn coders(rt: HostRuntime) -> Result<(), Fail> {
     let cases = [
-        (1, 0, 1, 0, 51),
-        (2, 0, 2, 0, 0),
-        (2, 0, 2, 1, 54),
-        (2, 3, 2, 7, 0),
-        (2, 3, 2, 8, 54),
-        (80, 64, 80, u64::MAX, 0),
-        (80, 65, 80, 0, 52),
-        (80, 64, 79, 0, 53),
-        (81, 65, 0, 0, 51),
+        (1, 0, 1, 0, Some(51)),
+        (2, 0, 2, 0, None),
+        (2, 0, 2, 1, Some(54)),
+        (2, 3, 2, 7, None),
+        (2, 3, 2, 8, Some(54)),
+        (80, 64, 80, u64::MAX, None),
+        (80, 65, 80, 0, Some(52)),
+        (80, 64, 79, 0, Some(53)),
+        (81, 65, 0, 0, Some(51)),
     ];
     for (parts, rows, columns, word, number) in cases {
         assert_eq!(rt; code(rt.alloc(), parts, rows, columns, word)?, number);
@@ -93,51 +87,39 @@ fn closeness_and_net(
     let Ok(near) = Closeness::make(parts, vec![in heap; 952_380u32; entries]?) else {
         return Err(Fail::new("closeness refused"));
     };
-    let net = Net {
-        weight,
-        first: 0,
-        count: 2,
-    };
-    match Nets::make(others, vec![in heap; net]?, vec![in heap; 0u8, 1]?) {
-        Ok(nets) => Ok((near, nets)),
-        Err(_) => Err(Fail::new("nets refused")),
-    }
+    let nets = vec![in heap; Net::new(weight, 0, 2)]?;
+    let nets = Nets::make(others, nets, vec![in heap; 0u8, 1]?).map_err(|_| Fail::new(
+        "nets refused",
+    ))?;
+    Ok((near, nets))
 }
 
 #[test]
 fn sums(rt: HostRuntime) -> Result<(), Fail> {
     let cases = [
-        (15, 1_000, 1, 99_999, 0),
-        (15, 1_000, 1, 100_000, 57),
-        (14, 1_000, 1, 100_000, 55),
-        (16, 0, 1, 1, 55),
-        (15, 0, 1, 1, 56),
-        (15, 1, 0, 1, 56),
-        (15, 1, 1_000, 1, 0),
-        (15, 1_001, 1, 1, 56),
-        (15, 1, 1_001, 1, 56),
-        (15, 1_001, 1, 100_000, 56),
+        (15, 1_000, 1, 99_999, None),
+        (15, 1_000, 1, 100_000, Some(57)),
+        (14, 1_000, 1, 100_000, Some(55)),
+        (16, 0, 1, 1, Some(55)),
+        (15, 0, 1, 1, Some(56)),
+        (15, 1, 0, 1, Some(56)),
+        (15, 1, 1_000, 1, None),
+        (15, 1_001, 1, 1, Some(56)),
+        (15, 1, 1_001, 1, Some(56)),
+        (15, 1_001, 1, 100_000, Some(56)),
     ];
     for (others, p, q, weight, number) in cases {
         let (near, nets) = closeness_and_net(rt.alloc(), 15, 225, others, weight)?;
-        let fault = match Sum::make(near, nets, p, q) {
-            Ok(_) => 0,
-            Err(refused) => refused.fault.number(),
-        };
-        assert_eq!(rt; fault, number);
+        assert_eq!(rt; refusal(Sum::make(near, nets, p, q)), number);
     }
     Ok(())
 }
 
 #[test]
 fn ties(rt: HostRuntime) -> Result<(), Fail> {
-    for (others, number) in [(14, 55), (15, 0), (16, 55)] {
+    for (others, number) in [(14, Some(55)), (15, None), (16, Some(55))] {
         let (near, nets) = closeness_and_net(rt.alloc(), 15, 225, others, 1)?;
-        let fault = match Tie::make(near, nets) {
-            Ok(_) => 0,
-            Err(refused) => refused.fault.number(),
-        };
-        assert_eq!(rt; fault, number);
+        assert_eq!(rt; refusal(Tie::make(near, nets)), number);
     }
     Ok(())
 }
@@ -150,7 +132,7 @@ fn folded(
     length: usize,
     last: u8,
     m: usize,
-) -> Result<u8, Fail> {
+) -> Result<Option<u8>, Fail> {
     let Ok(near) = Closeness::make(parts, vec![in heap; 1u32; entries]?) else {
         return Err(Fail::new("closeness refused"));
     };
@@ -158,25 +140,22 @@ fn folded(
     let Ok(_) = boxes.push(last) else {
         return Err(Fail::new("no memory"));
     };
-    match Fold::make(near, boxes, m) {
-        Ok(_) => Ok(0),
-        Err(refused) => Ok(refused.fault.number()),
-    }
+    Ok(refusal(Fold::make(near, boxes, m)))
 }
 
 #[test]
 fn folds(rt: HostRuntime) -> Result<(), Fail> {
     let cases = [
-        (3, 9, 2, 1, 2, 0),
-        (3, 9, 2, 0, 1, 51),
-        (3, 9, 2, 0, 2, 58),
-        (3, 9, 2, 2, 2, 54),
-        (3, 9, 2, 2, 3, 58),
-        (3, 9, 1, 1, 2, 53),
-        (3, 9, 3, 1, 2, 53),
-        (80, 6_400, 79, 79, 80, 58),
-        (80, 6_400, 79, 80, 80, 54),
-        (80, 6_400, 79, 80, 81, 51),
+        (3, 9, 2, 1, 2, None),
+        (3, 9, 2, 0, 1, Some(51)),
+        (3, 9, 2, 0, 2, Some(58)),
+        (3, 9, 2, 2, 2, Some(54)),
+        (3, 9, 2, 2, 3, Some(58)),
+        (3, 9, 1, 1, 2, Some(53)),
+        (3, 9, 3, 1, 2, Some(53)),
+        (80, 6_400, 79, 79, 80, Some(58)),
+        (80, 6_400, 79, 80, 80, Some(54)),
+        (80, 6_400, 79, 80, 81, Some(51)),
     ];
     for (parts, entries, length, last, m, number) in cases {
         assert_eq!(rt;

@@ -9,25 +9,12 @@ use Rattle.std.proofs.lemmas.Bool.{cond-true, eq-eqb}
 use Rattle.std.proofs.lemmas.Bool.Decides.{nat_tests}
 use Rattle.columns.specs.Field.{field, fits}
 use Rattle.columns.specs.Number.{number}
-use Rattle.columns.specs.declared.fault.FieldFault.{FieldFault}
 use Rattle.columns.proofs.Laws.{length_field, written_reads_back, read_is_written, clean_field}
 use Rattle.figure.specs.Cut.{and_then, cut, opened, in_row, numbers, pieces, pieces_by}
 use Rattle.figure.specs.Writing.{row_text}
-use Rattle.figure.specs.declared.fault.RowFault.TheVariants.{Length, Field}
+use Rattle.figure.specs.declared.fault.RowFault.TheVariants.{Length}
 use Rattle.figure.proofs.Cutting.{Inside, cut_row, pieces_more, whole_first, whole_rest}
 use Rattle.figure.proofs.Results.{ok_same, err_ok, and_then_parts, cond_parts, in_row_ok}
-
--- one field is read
-pub numbers_more : (w r k v : ℕ) (vs left : List ℕ) → 0 < w → 0 < length left → number (take w left) ≡ Ok v → numbers r k vs (pieces w left) ≡ numbers r (k + 1) (vs ++ (v ∷ [])) (pieces w (drop w left))
-numbers_more w r k v vs left some more e =
-    ap (numbers r k vs) (pieces_more w left some more)
-    ∙ ap (λ x. and_then (in_row r k x) (λ u. numbers r (k + 1) (vs ++ (u ∷ [])) (pieces w (drop w left)))) e
-
--- one field is refused
-pub numbers_stop : (w r k : ℕ) (f : FieldFault) (vs left : List ℕ) → 0 < w → 0 < length left → number (take w left) ≡ Err f → numbers r k vs (pieces w left) ≡ Err (Field (record { place = record { row = r; field = k }; cause = f }))
-numbers_stop w r k f vs left some more e =
-    ap (numbers r k vs) (pieces_more w left some more)
-    ∙ ap (λ x. and_then (in_row r k x) (λ u. numbers r (k + 1) (vs ++ (u ∷ [])) (pieces w (drop w left)))) e
 
 -- whole pieces of a list are as long as they should be, and give the list back
 by_parts : (m w : ℕ) (xs : List ℕ) → 0 < w → length xs ≤ m → length xs % w ≡ 0 → AllByRecursion (λ p. length p ≡ w) (pieces_by m w xs) × (flat_map (λ p. p) (pieces_by m w xs) ≡ xs)

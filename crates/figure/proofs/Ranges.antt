@@ -1,8 +1,7 @@
 -- Numbers within their ranges. Assumes nothing.
-use Rattle.std.proofs.Common.{◌≡◌, ℕ, ◌+◌, ◌<◌, ◌≤◌, Bool, true, false, cond, leb, List, [], ◌∷◌, length, get_or, drop, Some, None, Option, sym, refl, ap, ◌∙◌, subst, add_assoc, arith}
+use Rattle.std.proofs.Common.{◌≡◌, ℕ, ◌+◌, ◌≤◌, Bool, true, false, cond, leb, List, [], ◌∷◌, Some, None, Option, sym, refl, ◌∙◌, subst, arith}
 use Rattle.std.specs.List.{AllByRecursion}
-use Rattle.std.proofs.lemmas.List.{at_drop_more}
-use Rattle.std.proofs.lemmas.Bool.{and_from, and_parts, cond-true, cond-false, le-leb, leb-true}
+use Rattle.std.proofs.lemmas.Bool.{and_from, and_parts, cond-true, le-leb, leb-true}
 use Rattle.figure.specs.Rules.{within, stray, outside}
 use Rattle.figure.specs.declared.rule.Range.{Range}
 use Rattle.figure.specs.declared.rule.Rule.{Rule}
@@ -29,16 +28,6 @@ stray_in g k (v ∷ vs) e = let a = passed (within g v) (stray g (k + 1) vs) k e
 stray_none : (g : Range) (k : ℕ) (vs : List ℕ) → AllByRecursion (In g) vs → stray g k vs ≡ None
 stray_none g k [] h = refl
 stray_none g k (v ∷ vs) h = cond-true (within g v) (stray g (k + 1) vs) (Some k) (in_within g v h.0) ∙ stray_none g (k + 1) vs h.1
-
--- the number at place i is within its range, so the search goes on
-pub stray_on : (g : Range) (k : ℕ) (vs : List ℕ) (i : ℕ) → i < length vs → within g (get_or vs i 0) ≡ true → stray g (k + (i + 1)) (drop (i + 1) vs) ≡ stray g (k + i) (drop i vs)
-stray_on g k vs i h t =
-    ap (λ j. stray g j (drop (i + 1) vs)) (sym (add_assoc k i 1))
-    ∙ sym (at_drop_more (stray g (k + i)) vs i 0 h ∙ cond-true (within g (get_or vs i 0)) (stray g (k + i + 1) (drop (i + 1) vs)) (Some (k + i)) t)
-
--- the number at place i is outside its range, so it is the answer
-pub stray_at : (g : Range) (k : ℕ) (vs : List ℕ) (i : ℕ) → i < length vs → within g (get_or vs i 0) ≡ false → stray g k (drop i vs) ≡ Some k
-stray_at g k vs i h t = at_drop_more (stray g k) vs i 0 h ∙ cond-false (within g (get_or vs i 0)) (stray g (k + 1) (drop (i + 1) vs)) (Some k) t
 
 -- none is outside: the first is in its range, and the others in theirs
 pub outside_in : (rule : Rule) (v : ℕ) (vs : List ℕ) → outside rule (v ∷ vs) ≡ None → In rule.first v × AllByRecursion (In rule.rest) vs

@@ -1,9 +1,8 @@
 -- A content that rows have made so far: all that a file must be but whole. Assumes nothing.
 use Rattle.std.proofs.Common.{◌≡◌, ℕ, ◌*◌, ◌%◌, ◌^◌, ◌<◌, ◌≤◌, Bool, true, false, cond, not, ◌&&◌, eqb, ltb, leb, List, [], ◌∷◌, length, refl, ap, ◌∙◌}
 use native.Mathlib.Nat.{zero-mod, mul-mod_left}
-use Rattle.std.specs.List.{AllByRecursion}
+use Rattle.std.specs.List.{AllByRecursion, list_all}
 use Rattle.std.proofs.lemmas.Bool.{and_from, and_parts, eqb-true, le-leb, leb-true, lt-ltb, ltb-true}
-use Rattle.measure.specs.Lists.{every}
 use Rattle.figure.specs.Content.{Content}
 use Rattle.figure.specs.Kinds.{multipliers, needs_closeness}
 use Rattle.figure.specs.Reading.{whole_closeness}
@@ -30,13 +29,13 @@ pub record Sound (top : ℕ) (c : Content) : Type 0 where
   pub welds_in : AllByRecursion (λ x. (x.a < c.n) × (x.b < c.n)) c.welds
 
 module _ {X : Type 0} (p : X → Bool) (P : X → Type 0) where
-  every_all : ((x : X) → p x ≡ true → P x) → (xs : List X) → every p xs ≡ true → AllByRecursion P xs
+  every_all : ((x : X) → p x ≡ true → P x) → (xs : List X) → list_all p xs ≡ true → AllByRecursion P xs
   every_all f [] h = tt
-  every_all f (x ∷ xs) h = let a = and_parts (p x) (every p xs) h in (f x a.0, every_all f xs a.1)
+  every_all f (x ∷ xs) h = let a = and_parts (p x) (list_all p xs) h in (f x a.0, every_all f xs a.1)
 
-  all_every : ((x : X) → P x → p x ≡ true) → (xs : List X) → AllByRecursion P xs → every p xs ≡ true
+  all_every : ((x : X) → P x → p x ≡ true) → (xs : List X) → AllByRecursion P xs → list_all p xs ≡ true
   all_every f [] h = refl
-  all_every f (x ∷ xs) h = and_from (p x) (every p xs) (f x h.0) (all_every f xs h.1)
+  all_every f (x ∷ xs) h = and_from (p x) (list_all p xs) (f x h.0) (all_every f xs h.1)
 
 -- a whole table is whole rows
 whole_table : (n : ℕ) (kind : Kind) (m : ℕ) → whole_closeness n kind m ≡ true → m % n ≡ 0

@@ -56,64 +56,16 @@ with_bits i (c ∷ cs) (v ∷ vs) = (c + v * 2 ^ i) ∷ with_bits i cs vs
 
 module _ (c : Content) (vs : List ℕ) where
   abbrev pub with_net : Content
-  with_net =
-      record {
-        n = c.n;
-        kind = c.kind;
-        p = c.p;
-        q = c.q;
-        nets = c.nets ++ (net_at (length c.pins) vs ∷ []);
-        pins = c.pins ++ drop 1 vs;
-        closeness = c.closeness;
-        rows = c.rows;
-        columns = c.columns;
-        welds = c.welds;
-      }
+  with_net = record c { nets = c.nets ++ (net_at (length c.pins) vs ∷ []); pins = c.pins ++ drop 1 vs }
 
   abbrev pub with_entries : Content
-  with_entries =
-      record {
-        n = c.n;
-        kind = c.kind;
-        p = c.p;
-        q = c.q;
-        nets = c.nets;
-        pins = c.pins;
-        closeness = c.closeness ++ vs;
-        rows = c.rows;
-        columns = c.columns;
-        welds = c.welds;
-      }
+  with_entries = record c { closeness = c.closeness ++ vs }
 
   abbrev pub with_row : Content
-  with_row =
-      record {
-        n = c.n;
-        kind = c.kind;
-        p = c.p;
-        q = c.q;
-        nets = c.nets;
-        pins = c.pins;
-        closeness = c.closeness;
-        rows = c.rows + 1;
-        columns = with_bits c.rows c.columns vs;
-        welds = c.welds;
-      }
+  with_row = record c { rows = c.rows + 1; columns = with_bits c.rows c.columns vs }
 
   abbrev pub with_weld : Content
-  with_weld =
-      record {
-        n = c.n;
-        kind = c.kind;
-        p = c.p;
-        q = c.q;
-        nets = c.nets;
-        pins = c.pins;
-        closeness = c.closeness;
-        rows = c.rows;
-        columns = c.columns;
-        welds = c.welds ++ (weld_of vs ∷ []);
-      }
+  with_weld = record c { welds = c.welds ++ (weld_of vs ∷ []) }
 
 -- the content with a row more
 abbrev pub placed : Content → ℕ → List ℕ → Content

@@ -1,5 +1,5 @@
 -- The kinds of measure, and the range of the multipliers p and q of each. Assumes nothing.
-use Rattle.std.specs.Prelude.{ℕ, Bool, true, false, cond, ◌==◌}
+use Rattle.std.specs.Prelude.{ℕ, ◌≤◌, Bool, true, false, cond, ◌==◌}
 use Rattle.figure.specs.declared.header.Kind.{Kind}
 use Rattle.figure.specs.declared.header.Kind.TheVariants.{Nets, Closeness, Coder, Sum, Tie}
 use Rattle.figure.specs.declared.rule.Range.{Range}
@@ -14,6 +14,10 @@ kind_number Tie = 5
 -- the numbers of the kinds
 abbrev pub kinds : Range
 kinds = record { low = 1; high = 5 }
+
+-- is it the number of a kind?
+abbrev pub IsKindNumber : ℕ → Type 0
+IsKindNumber k = (1 ≤ k) × (k ≤ 5)
 
 -- the kind with one of these numbers
 abbrev pub kind_of : ℕ → Kind

@@ -5,4 +5,5 @@ pub mod Numbers
 pub mod Reading
 pub mod Rules
 pub mod Tables
+pub mod Texts
 pub mod Writing

@@ -1,9 +1,8 @@
 -- The file of a content, and what the writer answers and leaves. Assumes nothing.
 use Rattle.std.specs.Prelude.{ℕ, ◌+◌, ◌/◌, ◌%◌, ◌^◌, Bool, cond, ◌&&◌, ltb, leb, List, [], ◌∷◌, ◌++◌, map, length, take, drop, Ok, Err, Result, ◌==◌, nat_le, nat_lt}
-use Rattle.std.specs.List.{range_with_len, flat_map}
+use Rattle.std.specs.List.{range_with_len, flat_map, list_all}
 use Rattle.columns.specs.Field.{field}
 use Rattle.measure.specs.Limits.{count_fits}
-use Rattle.measure.specs.Lists.{every}
 use Rattle.nets.specs.declared.net.Net.{Net}
 use Rattle.figure.specs.Content.{Content}
 use Rattle.figure.specs.Cut.{pieces}
@@ -60,9 +59,9 @@ abbrev pub admits : ℕ → Content → Bool
 admits top c =
     (count_fits c.n && (within (multipliers c.kind) c.p && within (multipliers c.kind) c.q))
     && ((nat_le (length c.nets) 500 && (nat_le (length c.pins) 4000 && (nat_le c.rows 64 && nat_le (length c.welds) 200)))
-    && ((follow top 0 c.nets (length c.pins) && every (λ v. ltb v c.n) c.pins)
-    && ((whole_closeness c.n c.kind (length c.closeness) && every (λ v. leb v top) c.closeness)
-    && (every (λ v. ltb v (2 ^ c.rows)) c.columns && every (λ x. nat_lt x.a c.n && nat_lt x.b c.n) c.welds))))
+    && ((follow top 0 c.nets (length c.pins) && list_all (λ v. ltb v c.n) c.pins)
+    && ((whole_closeness c.n c.kind (length c.closeness) && list_all (λ v. leb v top) c.closeness)
+    && (list_all (λ v. ltb v (2 ^ c.rows)) c.columns && list_all (λ x. nat_lt x.a c.n && nat_lt x.b c.n) c.welds))))
 
 -- the header counts no more than the tables have, and an accepted file can hold what they give
 abbrev pub held : ℕ → Header → Tables → Bool

@@ -1,4 +1,3 @@
 pub mod Cut
 pub mod Making
-pub mod Sound
-pub mod Laws
+pub mod lemmas

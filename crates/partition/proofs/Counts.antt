@@ -1,9 +1,9 @@
 -- How many numbers of a run pass a test. Assumes nothing.
-use Rattle.std.proofs.Common.{◌≡◌, ℕ, zero, suc, ◌+◌, ◌-◌, ◌<◌, ◌≤◌, Bool, true, false, cond, List, ◌∷◌, length, filter, refl, ap, ◌∙◌, inl, inr, arith}
+use Rattle.std.proofs.Common.{◌≡◌, ℕ, zero, suc, ◌+◌, ◌<◌, ◌≤◌, Bool, true, false, cond, List, ◌∷◌, length, filter, refl, ap, ◌∙◌, inl, inr, arith}
 use Rattle.std.specs.List.{range_with_len}
 use Rattle.std.proofs.lemmas.Bool.{cases_eq}
 
-pub length_cell : (b : Bool) (x : ℕ) (ys : List ℕ) → length (cond b (x ∷ ys) ys) ≡ cond b 1 0 + length ys
+pub length_cell : {X : Type 0} (b : Bool) (x : X) (ys : List X) → length (cond b (x ∷ ys) ys) ≡ cond b 1 0 + length ys
 length_cell true x ys = omega arith
 length_cell false x ys = omega arith
 
@@ -56,21 +56,3 @@ kept_all q a (suc k) h =
     let ih = kept_all q (a + 1) k (λ p l m. h p (omega arith) (omega arith)) in
     let here = h a (omega arith) (omega arith) in
     cc
-
--- how many of the numbers from k below n pass
-abbrev pub left : (ℕ → Bool) → ℕ → ℕ → ℕ
-left q n k = length (filter q (range_with_len k (n - k)))
-
--- how that count goes on from each number, and where it ends: what a loop over the numbers needs of it
-pub record Counts (q : ℕ → Bool) (n : ℕ) : Type 0 where
-  pub next : (k : ℕ) → k < n → left q n k ≡ cond (q k) 1 0 + left q n (k + 1)
-  pub ends : left q n n ≡ 0
-
-pub counts : (q : ℕ → Bool) (n : ℕ) → Counts q n
-counts q n = record { next = λ k l. more k (n - k) (n - (k + 1)) (omega arith); ends = none (n - n) (omega arith) }
-  where
-    more : (k m j : ℕ) → m ≡ suc j → length (filter q (range_with_len k m)) ≡ cond (q k) 1 0 + length (filter q (range_with_len (k + 1) j))
-    more k m j e = ap (λ i. length (filter q (range_with_len k i))) e ∙ length_cell (q k) k (filter q (range_with_len (k + 1) j))
-
-    none : (m : ℕ) → m ≡ 0 → length (filter q (range_with_len n m)) ≡ 0
-    none m e = ap (λ i. length (filter q (range_with_len n i))) e

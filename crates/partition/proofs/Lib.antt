@@ -5,3 +5,4 @@ pub mod Joins
 pub mod Singles
 pub mod Rewrites
 pub mod Kept
+pub mod Counted

@@ -1,10 +1,8 @@
--- Records rewritten one by one, and what a table says of its parts. Assumes nothing.
-use Rattle.std.proofs.Common.{◌≡◌, ℕ, zero, suc, ◌+◌, ◌<◌, ◌≤◌, List, [], ◌∷◌, length, get_or, take, set, sym, refl, ap, ◌∙◌, ap₂, arith}
-use Rattle.std.proofs.lemmas.List.{get_or-map, get_or-take, length-map, length-take-le, set-get_or}
-use Rattle.partition.specs.Names.{names_of, sizes_of}
+-- Records rewritten one by one. Assumes nothing.
+use Rattle.std.proofs.Common.{◌≡◌, ℕ, zero, suc, ◌+◌, ◌<◌, List, [], ◌∷◌, length, get_or, set, sym, refl, ap, ◌∙◌, ap₂, arith}
+use Rattle.std.proofs.lemmas.List.{set-get_or}
 use Rattle.partition.specs.Records.{rewritten}
 use Rattle.partition.specs.declared.table.Record.{Record}
-use Rattle.partition.specs.declared.table.Table.{Table}
 
 pub length_rewritten : (f : ℕ → Record → Record) (k n : ℕ) (rs : List Record) → length (rewritten f k n rs) ≡ length rs
 length_rewritten f k zero rs = refl
@@ -37,13 +35,11 @@ pub record Rewrites (f : ℕ → Record → Record) (old : List Record) : Type 0
       set rs k v ≡ rewritten f 0 (k + 1) old
   pub keep : (k : ℕ) (rs : List Record) (r : Record) → k < length old → rs ≡ rewritten f 0 k old → r ≡ get_or rs k r → r ≡ f k r →
       rs ≡ rewritten f 0 (k + 1) old
-  pub long : (k : ℕ) → length (rewritten f 0 k old) ≡ length old
 
 pub rewrites : (f : ℕ → Record → Record) (old : List Record) → Rewrites f old
 rewrites f old = record {
   next = step;
   keep = λ k rs r l e h j. sym (set-get_or rs k r) ∙ ap (set rs k) (sym h) ∙ step k rs r r l e h j;
-  long = λ k. length_rewritten f 0 k old;
 }
   where
     step : (k : ℕ) (rs : List Record) (r v : Record) → k < length old → rs ≡ rewritten f 0 k old → r ≡ get_or rs k r → v ≡ f k r →
@@ -53,17 +49,3 @@ rewrites f old = record {
         let here : k ≡ 0 + k = omega arith in
         let more = rewritten_more f 0 k old r l (h ∙ ap (λ s. get_or s k r) e) in
         ap₂ (λ s w. set s k w) e (j ∙ ap (λ i. f i r) here) ∙ more ∙ ap (λ m. rewritten f 0 m old) one
-
-module _ (table : Table) (within : table.len ≤ length table.records) where
-  pub names_length : length (names_of table) ≡ table.len
-  names_length = length-map (take table.len table.records) _ ∙ length-take-le table.len table.records within
-
-  pub name_at : (k : ℕ) (d : Record) → k < table.len → get_or (names_of table) k 0 ≡ (get_or table.records k d).name
-  name_at k d l =
-      get_or-map (λ r. r.name) (take table.len table.records) k d 0 (omega (arith, length-take-le table.len table.records within))
-      ∙ ap (λ r. r.name) (get_or-take table.len table.records k d l)
-
-  pub size_at : (k : ℕ) (d : Record) → k < table.len → get_or (sizes_of table) k 0 ≡ (get_or table.records k d).size
-  size_at k d l =
-      get_or-map (λ r. r.size) (take table.len table.records) k d 0 (omega (arith, length-take-le table.len table.records within))
-      ∙ ap (λ r. r.size) (get_or-take table.len table.records k d l)

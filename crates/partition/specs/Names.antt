@@ -1,14 +1,6 @@
 -- The groups of a figure's parts, as the list of their names: part by part, the name of its group. Assumes nothing.
-use Rattle.std.specs.Prelude.{◌≡◌, ℕ, ◌+◌, ◌<◌, ◌≤◌, Bool, cond, List, [], ◌∷◌, map, length, take, filter, ◌==◌, slice_index}
+use Rattle.std.specs.Prelude.{◌≡◌, ℕ, ◌+◌, ◌<◌, ◌≤◌, Bool, cond, List, [], ◌∷◌, length, filter, ◌==◌, slice_index}
 use Rattle.std.specs.List.{range_with_len}
-use Rattle.partition.specs.declared.table.Table.{Table}
-
--- what a table of records says
-abbrev pub names_of : Table → List ℕ
-names_of table = map (λ r. r.name) (take table.len table.records)
-
-abbrev pub sizes_of : Table → List ℕ
-sizes_of table = map (λ r. r.size) (take table.len table.records)
 
 -- each part is a group: part p has the name p
 abbrev pub singles : ℕ → List ℕ

@@ -1,29 +1,30 @@
 // Why a step on the groups is refused.
-ghost use Rattle.std.specs.Prelude.{◌≡◌};
+ghost use Rattle.std.specs.Prelude.{◌≡◌, Some};
 ghost use Rattle.partition.specs.Numbers.{group_number};
+ghost use Rattle.partition.specs.Texts.{group_text};
 
+use std::error::Error;
 use std::fmt;
 
-#[derive(Clone, Copy)]
+#[derive(Clone, Copy, Debug, PartialEq, Eq)]
 pub enum GroupFault {
     // a part that the figure has not
-    Part,
+    Part = 41,
     // two different groups, while only two stand
-    LastTwo,
+    LastTwo = 42,
 }
 
 impl GroupFault {
     pub fn number(self) -> u8
         ensures answer { result ≡ group_number self }
     {
-        match self {
-            GroupFault::Part => 41,
-            GroupFault::LastTwo => 42,
-        }
+        self as u8
     }
 }
 
 impl fmt::Display for GroupFault {
+    ghost output = { λ fault. Some (group_text fault) };
+
     fn fmt<W: fmt::Write>(&self, f: &mut fmt::Formatter<W>) -> fmt::Result {
         match self {
             GroupFault::Part => write!(f, "41: the figure has no such part"),
@@ -34,3 +35,5 @@ impl fmt::Display for GroupFault {
         }
     }
 }
+
+impl Error for GroupFault {}

@@ -2,8 +2,6 @@
 #![tactic(auto)]
 
 pub mod fault;
-mod groups;
 pub mod partition;
-mod records;
 pub mod steps;
 pub mod table;

@@ -1,8 +1,9 @@
 -- The loop that carries out the calls of a run. Assumes nothing.
-use Rattle.std.proofs.Common.{◌≡◌, ℕ, ◌+◌, ◌<◌, ◌≤◌, Bool, ◌≢◌, List, [], ◌∷◌, ◌++◌, length, get_or, take, drop, set, sym, refl, ap, ◌∙◌, subst, arith, below_more}
+use Rattle.std.proofs.Common.{◌≡◌, ℕ, ◌+◌, ◌<◌, ◌≤◌, Bool, ◌≢◌, List, [], ◌∷◌, ◌++◌, length, get_or, take, drop, set, sym, refl, ap, ◌∙◌, subst, subst₂, arith, below_more}
 use Rattle.std.proofs.lemmas.List.{take_more, take_all, get_or_default, get_or-drop, drop-set-lt, drop-drop, get_or-set_same, get_or-set_other, map_push}
-use Rattle.plan.specs.Runs.{Certain, Done, calls_of}
-use Rattle.plan.specs.Standing.{after, standing_of, stepped}
+use Rattle.partition.specs.Names.{singles}
+use Rattle.plan.specs.Runs.{Certain, Done, Each, calls_of}
+use Rattle.plan.specs.Standing.{after, stepped}
 use Rattle.plan.specs.declared.call.Call.{Call}
 use Rattle.plan.specs.declared.call.Step.{Step}
 
@@ -35,57 +36,59 @@ module _ {X : Type 0} (old new : List X) (i : ℕ) (rest : drop i new ≡ drop i
       (λ k h. let ne : k ≢ i = omega arith in rw get_or-set_other (before k d h))
       (rw get_or-set_same (at d)) k
 
-module _ {C X P M : Type 0} (amount : C → X) (plus : X → X → X) (le : X → X → Bool) (count : M → ℕ) (price : M → List ℕ → C) (measure : P → M) (names_of : P → List ℕ)
+module _ {C X P M : Type 0} (amount : C → X) (plus : X → X → X) (le : X → X → Bool) (count : M → ℕ) (price : M → List ℕ → C) (measure : P → M) (groups : P → List ℕ)
     (plan : P) (steps : List (Step C)) where
   -- the groups that stand after the first k calls
   abbrev pub stood : ℕ → List ℕ
-  stood k = after (standing_of (count (measure plan)) (names_of plan)) (calls_of (take k steps))
+  stood k = after (groups plan) (calls_of (take k steps))
 
-  abbrev pub Both : ℕ → Step C → Step C → Type 0
-  Both k x y = Done amount plus le (price (measure plan)) (count (measure plan)) (stood k) x y × Certain amount plus le (price (measure plan)) (count (measure plan)) (stood k) y
+  -- what holds of a step that was carried out on a plan with this measure and these groups
+  abbrev pub Both : M → List ℕ → Step C → Step C → Type 0
+  Both m names x y = Done amount plus le (price m) (count m) names x y × Certain amount plus le (price m) (count m) names y
 
   -- the first i calls are carried out, and the steps behind are as they were
   pub record Carried (i : ℕ) (now_plan : P) (now_steps : List (Step C)) : Type 0 where
     pub same : measure now_plan ≡ measure plan
-    pub standing : standing_of (count (measure plan)) (names_of now_plan) ≡ stood i
-    pub parts : length (names_of plan) ≡ count (measure plan) → length (names_of now_plan) ≡ count (measure plan)
-    pub each : (k : ℕ) (d : Step C) → k < i → Both k (get_or steps k d) (get_or now_steps k d)
+    pub standing : groups now_plan ≡ stood i
+    pub each : (k : ℕ) (d : Step C) → k < i → Both (measure plan) (stood k) (get_or steps k d) (get_or now_steps k d)
     pub rest : drop i now_steps ≡ drop i steps
 
   pub carried_none : Carried 0 plan steps
-  carried_none = record { same = refl; standing = refl; parts = λ h. h; each = λ k d l. absurd (omega arith); rest = refl }
+  carried_none = record { same = refl; standing = refl; each = λ k d l. absurd (omega arith); rest = refl }
 
   pub carried_more : (i : ℕ) (now_plan next_plan : P) (now_steps : List (Step C)) (item new : Step C) → Carried i now_plan now_steps → i < length steps → length now_steps ≡ length steps →
       item ≡ get_or now_steps i item →
-      Done amount plus le (price (measure now_plan)) (count (measure now_plan)) (standing_of (count (measure now_plan)) (names_of now_plan)) item new →
-      Certain amount plus le (price (measure now_plan)) (count (measure now_plan)) (standing_of (count (measure now_plan)) (names_of now_plan)) new →
-      standing_of (count (measure now_plan)) (names_of next_plan) ≡ stepped (standing_of (count (measure now_plan)) (names_of now_plan)) item.call →
-      (length (names_of now_plan) ≡ count (measure now_plan) → length (names_of next_plan) ≡ count (measure now_plan)) →
+      Both (measure now_plan) (groups now_plan) item new →
+      groups next_plan ≡ stepped (groups now_plan) item.call →
       measure next_plan ≡ measure now_plan →
       Carried (i + 1) next_plan (set now_steps i new)
-  carried_more i now_plan next_plan now_steps item new f within long read done certain standing parts same = record {
+  carried_more i now_plan next_plan now_steps item new f within long read did standing same = record {
     same = same ∙ f.same;
     standing =
-        subst (λ m. standing_of (count m) (names_of next_plan) ≡ stepped (standing_of (count m) (names_of now_plan)) item.call) f.same standing
+        standing
         ∙ ap (λ ns. stepped ns item.call) f.standing
         ∙ ap (λ s. stepped (stood i) s.call) here
-        ∙ sym (after_more (standing_of (count (measure plan)) (names_of plan)) steps i item within);
-    parts = λ h. subst (λ m. length (names_of now_plan) ≡ count m → length (names_of next_plan) ≡ count m) f.same parts (f.parts h);
-    each = each_more steps now_steps i f.rest Both new (omega arith) f.each at;
+        ∙ sym (after_more (groups plan) steps i item within);
+    each = each_more steps now_steps i f.rest (λ k. Both (measure plan) (stood k)) new (omega arith) f.each at;
     rest = rest_more steps now_steps i f.rest new;
   }
     where
       here : item ≡ get_or steps i item
       here = read ∙ same_at steps now_steps i f.rest item
 
-      at : (d : Step C) → Both i (get_or steps i d) new
-      at d =
-          subst (λ x. Both i x new) (here ∙ get_or_default steps i item d within) (
-            subst (λ ns. Done amount plus le (price (measure plan)) (count (measure plan)) ns item new) f.standing
-                (subst (λ m. Done amount plus le (price m) (count m) (standing_of (count m) (names_of now_plan)) item new) f.same done),
-            subst (λ ns. Certain amount plus le (price (measure plan)) (count (measure plan)) ns new) f.standing
-                (subst (λ m. Certain amount plus le (price m) (count m) (standing_of (count m) (names_of now_plan)) new) f.same certain),
-          )
+      at : (d : Step C) → Both (measure plan) (stood i) (get_or steps i d) new
+      at d = subst (λ x. Both (measure plan) (stood i) x new) (here ∙ get_or_default steps i item d within) (subst₂ (λ m ns. Both m ns item new) f.same f.standing did)
 
-  pub stood_all : (i : ℕ) → length steps ≤ i → stood i ≡ after (standing_of (count (measure plan)) (names_of plan)) (calls_of steps)
-  stood_all i done = ap (λ ss. after (standing_of (count (measure plan)) (names_of plan)) (calls_of ss)) (take_all i steps done)
+  pub stood_all : (i : ℕ) → length steps ≤ i → stood i ≡ after (groups plan) (calls_of steps)
+  stood_all i done = ap (λ ss. after (groups plan) (calls_of ss)) (take_all i steps done)
+
+-- a run on a plan that is new: it holds the measure that was given, and each part is a group
+module _ {C X M : Type 0} (amount : C → X) (plus : X → X → X) (le : X → X → Bool) (count : M → ℕ) (price : M → List ℕ → C) (measure held : M) (groups : List ℕ)
+    (same : held ≡ measure) (new : groups ≡ singles (count measure)) (given back : List (Step C)) where
+  pub each_done : ((k : ℕ) (d : Step C) → k < length given → Done amount plus le (price held) (count held) (after groups (calls_of (take k given))) (get_or given k d) (get_or back k d)) →
+      Each (count measure) (Done amount plus le (price measure) (count measure)) given back
+  each_done did k d h = subst₂ (λ m ns. Done amount plus le (price m) (count m) (after ns (calls_of (take k given))) (get_or given k d) (get_or back k d)) same new (did k d h)
+
+  pub each_certain : ((k : ℕ) (d : Step C) → k < length given → Certain amount plus le (price held) (count held) (after groups (calls_of (take k given))) (get_or back k d)) →
+      Each (count measure) (λ names _ step. Certain amount plus le (price measure) (count measure) names step) given back
+  each_certain did k d h = subst₂ (λ m ns. Certain amount plus le (price m) (count m) (after ns (calls_of (take k given))) (get_or back k d)) same new (did k d h)

@@ -1,3 +1,3 @@
 pub mod Carried
+pub mod Fitting
 pub mod Lowest
-pub mod Records

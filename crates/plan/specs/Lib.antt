@@ -2,3 +2,4 @@ pub mod Numbers
 pub mod Replies
 pub mod Runs
 pub mod Standing
+pub mod Texts

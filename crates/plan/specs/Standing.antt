@@ -1,5 +1,5 @@
 -- Which groups stand: a fold of one step a call over the calls, from single parts on. Assumes nothing.
-use Rattle.std.specs.Prelude.{ℕ, cond, List, [], ◌∷◌, length, ◌==◌}
+use Rattle.std.specs.Prelude.{ℕ, List, [], ◌∷◌}
 use Rattle.partition.specs.Joined.{join_after}
 use Rattle.partition.specs.Names.{singles}
 use Rattle.partition.specs.Single.{single_after}
@@ -22,7 +22,3 @@ after names (call ∷ calls) = after (stepped names call) calls
 -- the groups that stand after some calls on a new plan with n parts
 abbrev pub standing_after : ℕ → List Call → List ℕ
 standing_after n calls = after (singles n) calls
-
--- the groups that a plan's names stand for, with n parts
-abbrev pub standing_of : ℕ → List ℕ → List ℕ
-standing_of n names = cond (length names == n) names (singles n)

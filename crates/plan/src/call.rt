@@ -1,10 +1,15 @@
 // Calls on a plan as data, each with its buffers and its answer.
+ghost use Rattle.std.specs.Prelude.{Some};
+ghost use Rattle.plan.specs.Texts.{call_text};
+
 use crate::fault::CostFault;
 use cost::line::Line;
 use partition::fault::GroupFault;
 use search::split::{Split, SplitFault};
+use std::fmt;
 
-#[derive(Clone, Copy)]
+// Printed, it is written as it is called.
+#[derive(Clone, Copy, Debug, PartialEq, Eq)]
 pub enum Call {
     Weld(usize, usize),
     Release(usize),
@@ -13,6 +18,20 @@ pub enum Call {
     Cost,
     // into the step's row and lines
     Split,
+}
+
+impl fmt::Display for Call {
+    ghost output = { λ call. Some (call_text call) };
+
+    fn fmt<W: fmt::Write>(&self, f: &mut fmt::Formatter<W>) -> fmt::Result {
+        match self {
+            Call::Weld(a, b) => write!(f, "weld({a}, {b})"),
+            Call::Release(a) => write!(f, "release({a})"),
+            Call::Group(a) => write!(f, "group({a})"),
+            Call::Cost => write!(f, "cost"),
+            Call::Split => write!(f, "split"),
+        }
+    }
 }
 
 #[derive(Drop)]

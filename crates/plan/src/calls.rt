@@ -1,12 +1,11 @@
 // The calls of a plan. A refusal leaves the plan, and every buffer, as it was.
 ghost use Rattle.std.specs.Prelude.{◌≡◌, ℕ, ◌-◌, ◌<◌, ◌≤◌, Bool, true, false, ◌&&◌, length, take, is_ok, IfOk, Ok, ◌==◌, ◌≢◌, nat_le};
 ghost use Rattle.partition.specs.Joined.{join_after, join_answer};
-ghost use Rattle.partition.specs.Names.{groups as groups', names_of, singles};
+ghost use Rattle.partition.specs.Names.{groups as groups', singles};
 ghost use Rattle.partition.specs.Single.{name_answer, single_after, single_answer};
 ghost use Rattle.search.specs.Certificate.{Certified, divides as divides'};
 ghost use Rattle.search.specs.Split.{lines_after, row_after, split_answer};
 ghost use Rattle.plan.specs.Replies.{cost_answer};
-ghost use Rattle.plan.specs.Standing.{standing_of};
 
 use crate::fault::CostFault;
 use crate::plan::Plan;
@@ -17,15 +16,16 @@ use partition::partition::Partition;
 use search::find::find_split;
 use search::split::{Split, SplitFault};
 
-// Does the row mark one part of a group and leave another unmarked?
+// Does the row mark one part of a group and leave another unmarked? Each part is held against the lowest of its group.
 fn divides(groups: &Partition, row: &[u8]) -> bool
-    requires long { length row.now ≡ length (names_of groups.now.table) }
-    ensures answer { result ≡ divides' (names_of groups.now.table) row.now }
+    requires long { length row.now ≡ length groups.now }
+    ensures answer { result ≡ divides' groups.now row.now }
 {
-    for p in 0..row.len() {
+    prove!(row.len() == groups.parts());
+    // with `any` the answer did not close against the definition, which is over pairs of parts
+    for (p, mark) in row.iter().enumerate() {
         if let Ok(name) = groups.name(p) {
-            let first = name as usize;
-            if (row[p] == 1) != (row[first] == 1) {
+            if (*mark == 1) != (row[usize::from(name)] == 1) {
                 return true;
             }
         }
@@ -37,81 +37,48 @@ impl<M: Measure> Plan<M> {
     // A new plan, with each part a group.
     pub fn new(measure: M) -> Plan<M>
         ensures measure { result.measure ≡ measure }
-        ensures names { names_of result.groups.table ≡ singles (M.Measure.count measure) }
+        ensures names { result.groups ≡ singles (M.Measure.count measure) }
     {
-        match Partition::singles(measure.parts()) {
-            Some(groups) => Plan { measure, groups },
-            None => unreachable(),
-        }
-    }
-
-    // The groups as they stand for the measure's parts.
-    fn current(&self) -> Partition
-        ensures names { names_of result.table ≡ standing_of (M.Measure.count self.now.measure) (names_of self.now.groups.table) }
-        ensures long { length (names_of result.table) ≡ M.Measure.count self.now.measure }
-    {
-        let n = self.measure.parts();
-        if self.groups.parts() == n {
-            return self.groups;
-        }
-        match Partition::singles(n) {
-            Some(groups) => groups,
-            None => unreachable(),
-        }
+        let groups = Partition::singles(measure.parts()).unwrap();
+        Plan { measure, groups }
     }
 
     // Joins the groups of parts a and b; false where they are one group already.
     pub fn weld(&mut self, a: usize, b: usize) -> Result<bool, GroupFault>
-        ensures answer { result ≡ join_answer (standing_of (M.Measure.count self.old.measure) (names_of self.old.groups.table)) a b }
-        ensures after { standing_of (M.Measure.count self.old.measure) (names_of self.new.groups.table) ≡ join_after (standing_of (M.Measure.count self.old.measure) (names_of self.old.groups.table)) a b }
-        ensures parts { length (names_of self.old.groups.table) ≡ M.Measure.count self.old.measure → length (names_of self.new.groups.table) ≡ M.Measure.count self.old.measure }
+        ensures answer { result ≡ join_answer self.old.groups a b }
+        ensures after { self.new.groups ≡ join_after self.old.groups a b }
         ensures measure { self.new.measure ≡ self.old.measure }
         ensures same { (result ≢ Ok true) → self.new ≡ self.old }
     {
-        let mut groups = self.current();
-        let joined = groups.join(a, b)?;
-        if joined {
-            self.groups = groups;
-        }
-        Ok(joined)
+        self.groups.join(a, b)
     }
 
     // Makes every part of a's group single, and answers how many groups then stand.
     pub fn release(&mut self, a: usize) -> Result<usize, GroupFault>
-        ensures answer { result ≡ single_answer (standing_of (M.Measure.count self.old.measure) (names_of self.old.groups.table)) a }
-        ensures after { standing_of (M.Measure.count self.old.measure) (names_of self.new.groups.table) ≡ single_after (standing_of (M.Measure.count self.old.measure) (names_of self.old.groups.table)) a }
-        ensures parts { length (names_of self.old.groups.table) ≡ M.Measure.count self.old.measure → length (names_of self.new.groups.table) ≡ M.Measure.count self.old.measure }
+        ensures answer { result ≡ single_answer self.old.groups a }
+        ensures after { self.new.groups ≡ single_after self.old.groups a }
         ensures measure { self.new.measure ≡ self.old.measure }
         ensures same { is_ok result ≡ false → self.new ≡ self.old }
     {
-        let mut groups = self.current();
-        let answer = groups.single(a);
-        if answer.is_ok() {
-            self.groups = groups;
-        }
-        answer
+        self.groups.single(a)
     }
 
     // The name of a's group.
     pub fn group(&self, a: usize) -> Result<u8, GroupFault>
-        ensures answer { result ≡ name_answer (standing_of (M.Measure.count self.now.measure) (names_of self.now.groups.table)) a }
+        ensures answer { result ≡ name_answer self.now.groups a }
     {
-        self.current().name(a)
+        self.groups.name(a)
     }
 
     // The measure's cost of a row that divides no group.
     pub fn cost(&self, row: &[u8]) -> Result<M::Cost, CostFault>
-        ensures answer { result ≡ cost_answer (M.Measure.price self.now.measure) (standing_of (M.Measure.count self.now.measure) (names_of self.now.groups.table)) (M.Measure.count self.now.measure) row.now }
+        ensures answer { result ≡ cost_answer (M.Measure.price self.now.measure) self.now.groups (M.Measure.count self.now.measure) row.now }
     {
-        match self.measure.cost(row) {
-            Ok(cost) => {
-                if divides(&self.current(), row) {
-                    return Err(CostFault::Divides);
-                }
-                Ok(cost)
-            }
-            Err(fault) => Err(CostFault::Row(fault)),
+        let cost = self.measure.cost(row)?;
+        if divides(&self.groups, row) {
+            return Err(CostFault::Divides);
         }
+        Ok(cost)
     }
 
     // Divides the figure at the least cost: marks a side in the row, and writes a line for each phase into the front of the lines.
@@ -120,12 +87,12 @@ impl<M: Measure> Plan<M> {
         row: &mut [u8],
         lines: &mut [Line<M::Cost>],
     ) -> Result<Split<M::Cost>, SplitFault>
-        ensures answer { result ≡ split_answer M.Cost.CostKind.amount M.Cost.CostKind.plus M.Cost.CostKind.le (M.Measure.price self.now.measure) (standing_of (M.Measure.count self.now.measure) (names_of self.now.groups.table)) (M.Measure.count self.now.measure) row.old lines.old }
-        ensures row { row.new ≡ row_after M.Cost.CostKind.amount M.Cost.CostKind.plus M.Cost.CostKind.le (M.Measure.price self.now.measure) (standing_of (M.Measure.count self.now.measure) (names_of self.now.groups.table)) (M.Measure.count self.now.measure) row.old lines.old }
-        ensures lines { lines.new ≡ lines_after M.Cost.CostKind.amount M.Cost.CostKind.plus M.Cost.CostKind.le (M.Measure.price self.now.measure) (standing_of (M.Measure.count self.now.measure) (names_of self.now.groups.table)) (M.Measure.count self.now.measure) row.old lines.old }
-        ensures accepted { is_ok result ≡ (length row.old == M.Measure.count self.now.measure && nat_le (groups' (standing_of (M.Measure.count self.now.measure) (names_of self.now.groups.table)) - 1) (length lines.old)) }
-        ensures certified { IfOk result (λ s. Certified M.Cost.CostKind.amount M.Cost.CostKind.le (M.Measure.price self.now.measure) (standing_of (M.Measure.count self.now.measure) (names_of self.now.groups.table)) row.new (take (s.groups - 1) lines.new) s.cost) }
+        ensures answer { result ≡ split_answer M.Cost.CostKind.amount M.Cost.CostKind.plus M.Cost.CostKind.le (M.Measure.price self.now.measure) self.now.groups (M.Measure.count self.now.measure) row.old lines.old }
+        ensures row { row.new ≡ row_after M.Cost.CostKind.amount M.Cost.CostKind.plus M.Cost.CostKind.le (M.Measure.price self.now.measure) self.now.groups (M.Measure.count self.now.measure) row.old lines.old }
+        ensures lines { lines.new ≡ lines_after M.Cost.CostKind.amount M.Cost.CostKind.plus M.Cost.CostKind.le (M.Measure.price self.now.measure) self.now.groups (M.Measure.count self.now.measure) row.old lines.old }
+        ensures accepted { is_ok result ≡ (length row.old == M.Measure.count self.now.measure && nat_le (groups' self.now.groups - 1) (length lines.old)) }
+        ensures certified { IfOk result (λ s. Certified M.Cost.CostKind.amount M.Cost.CostKind.le (M.Measure.price self.now.measure) self.now.groups row.new (take (s.groups - 1) lines.new) s.cost) }
     {
-        find_split(&self.measure, &self.current(), row, lines)
+        find_split(&self.measure, &self.groups, row, lines)
     }
 }

@@ -1,10 +1,10 @@
 // Runs of calls on a new plan, carried out in place.
 ghost use Rattle.std.specs.Prelude.{◌≡◌, ℕ, ◌-◌, ◌<◌, length, take, Ok, slice_index_or};
-ghost use Rattle.partition.specs.Names.{names_of, sizes_of};
+ghost use Rattle.partition.specs.Records.{sizes_of};
 ghost use Rattle.search.specs.Certificate.{Certified};
 ghost use Rattle.search.specs.Split.{lines_after, row_after, split_answer};
 ghost use Rattle.plan.specs.Runs.{Certain, Done, Each, calls_of, sizes};
-ghost use Rattle.plan.specs.Standing.{after, standing_after, standing_of, stepped};
+ghost use Rattle.plan.specs.Standing.{after, standing_after, stepped};
 
 use crate::call::{Answer, Call, Step};
 use crate::plan::Plan;
@@ -18,49 +18,37 @@ fn split_into<M: Measure>(
     row: &mut Vec<u8>,
     lines: &mut Vec<Line<M::Cost>>,
 ) -> Answer<M::Cost>
-    ensures answer { result ≡ Answer.Split (split_answer M.Cost.CostKind.amount M.Cost.CostKind.plus M.Cost.CostKind.le (M.Measure.price plan.now.measure) (standing_of (M.Measure.count plan.now.measure) (names_of plan.now.groups.table)) (M.Measure.count plan.now.measure) row.old.items lines.old.items) }
-    ensures row { row.new.items ≡ row_after M.Cost.CostKind.amount M.Cost.CostKind.plus M.Cost.CostKind.le (M.Measure.price plan.now.measure) (standing_of (M.Measure.count plan.now.measure) (names_of plan.now.groups.table)) (M.Measure.count plan.now.measure) row.old.items lines.old.items }
-    ensures lines { lines.new.items ≡ lines_after M.Cost.CostKind.amount M.Cost.CostKind.plus M.Cost.CostKind.le (M.Measure.price plan.now.measure) (standing_of (M.Measure.count plan.now.measure) (names_of plan.now.groups.table)) (M.Measure.count plan.now.measure) row.old.items lines.old.items }
-    ensures certified { (s : Split M.Cost) → result ≡ Answer.Split (Ok s) → Certified M.Cost.CostKind.amount M.Cost.CostKind.le (M.Measure.price plan.now.measure) (standing_of (M.Measure.count plan.now.measure) (names_of plan.now.groups.table)) row.new.items (take (s.groups - 1) lines.new.items) s.cost }
+    ensures answer { result ≡ Answer.Split (split_answer M.Cost.CostKind.amount M.Cost.CostKind.plus M.Cost.CostKind.le (M.Measure.price plan.now.measure) plan.now.groups (M.Measure.count plan.now.measure) row.old.items lines.old.items) }
+    ensures row { row.new.items ≡ row_after M.Cost.CostKind.amount M.Cost.CostKind.plus M.Cost.CostKind.le (M.Measure.price plan.now.measure) plan.now.groups (M.Measure.count plan.now.measure) row.old.items lines.old.items }
+    ensures lines { lines.new.items ≡ lines_after M.Cost.CostKind.amount M.Cost.CostKind.plus M.Cost.CostKind.le (M.Measure.price plan.now.measure) plan.now.groups (M.Measure.count plan.now.measure) row.old.items lines.old.items }
+    ensures certified { (s : Split M.Cost) → result ≡ Answer.Split (Ok s) → Certified M.Cost.CostKind.amount M.Cost.CostKind.le (M.Measure.price plan.now.measure) plan.now.groups row.new.items (take (s.groups - 1) lines.new.items) s.cost }
 {
     let marks = row.as_mut_slice();
     let room = lines.as_mut_slice();
     Answer::Split(plan.split(marks, room))
 }
 
-// One call.
+// One call. Calls are data, since what a run owes is stated of the list of them.
 fn one<M: Measure>(plan: &mut Plan<M>, step: &mut Step<M::Cost>)
-    ensures done { Done M.Cost.CostKind.amount M.Cost.CostKind.plus M.Cost.CostKind.le (M.Measure.price plan.old.measure) (M.Measure.count plan.old.measure) (standing_of (M.Measure.count plan.old.measure) (names_of plan.old.groups.table)) step.old step.new }
-    ensures certified { Certain M.Cost.CostKind.amount M.Cost.CostKind.plus M.Cost.CostKind.le (M.Measure.price plan.old.measure) (M.Measure.count plan.old.measure) (standing_of (M.Measure.count plan.old.measure) (names_of plan.old.groups.table)) step.new }
-    ensures standing { standing_of (M.Measure.count plan.old.measure) (names_of plan.new.groups.table) ≡ stepped (standing_of (M.Measure.count plan.old.measure) (names_of plan.old.groups.table)) step.old.call }
-    ensures parts { length (names_of plan.old.groups.table) ≡ (M.Measure.count plan.old.measure) → length (names_of plan.new.groups.table) ≡ (M.Measure.count plan.old.measure) }
+    ensures done { Done M.Cost.CostKind.amount M.Cost.CostKind.plus M.Cost.CostKind.le (M.Measure.price plan.old.measure) (M.Measure.count plan.old.measure) plan.old.groups step.old step.new }
+    ensures certified { Certain M.Cost.CostKind.amount M.Cost.CostKind.plus M.Cost.CostKind.le (M.Measure.price plan.old.measure) (M.Measure.count plan.old.measure) plan.old.groups step.new }
+    ensures standing { plan.new.groups ≡ stepped plan.old.groups step.old.call }
     ensures measure { plan.new.measure ≡ plan.old.measure }
 {
-    match step.call {
-        Call::Weld(a, b) => {
-            step.answer = Answer::Weld(plan.weld(a, b));
-        }
-        Call::Release(a) => {
-            step.answer = Answer::Release(plan.release(a));
-        }
-        Call::Group(a) => {
-            step.answer = Answer::Group(plan.group(a));
-        }
-        Call::Cost => {
-            step.answer = Answer::Cost(plan.cost(step.row.as_slice()));
-        }
-        Call::Split => {
-            step.answer = split_into(plan, &mut step.row, &mut step.lines);
-        }
-    }
+    step.answer = match step.call {
+        Call::Weld(a, b) => Answer::Weld(plan.weld(a, b)),
+        Call::Release(a) => Answer::Release(plan.release(a)),
+        Call::Group(a) => Answer::Group(plan.group(a)),
+        Call::Cost => Answer::Cost(plan.cost(step.row.as_slice())),
+        Call::Split => split_into(plan, &mut step.row, &mut step.lines),
+    };
 }
 
 // The calls in their order.
 fn carry<M: Measure>(plan: &mut Plan<M>, steps: &mut [Step<M::Cost>])
-    ensures done { (k : ℕ) (d : Step M.Cost) → k < length steps.old → Done M.Cost.CostKind.amount M.Cost.CostKind.plus M.Cost.CostKind.le (M.Measure.price plan.old.measure) (M.Measure.count plan.old.measure) (after (standing_of (M.Measure.count plan.old.measure) (names_of plan.old.groups.table)) (calls_of (take k steps.old))) (slice_index_or steps.old k d) (slice_index_or steps.new k d) }
-    ensures certified { (k : ℕ) (d : Step M.Cost) → k < length steps.old → Certain M.Cost.CostKind.amount M.Cost.CostKind.plus M.Cost.CostKind.le (M.Measure.price plan.old.measure) (M.Measure.count plan.old.measure) (after (standing_of (M.Measure.count plan.old.measure) (names_of plan.old.groups.table)) (calls_of (take k steps.old))) (slice_index_or steps.new k d) }
-    ensures standing { standing_of (M.Measure.count plan.old.measure) (names_of plan.new.groups.table) ≡ after (standing_of (M.Measure.count plan.old.measure) (names_of plan.old.groups.table)) (calls_of steps.old) }
-    ensures parts { length (names_of plan.old.groups.table) ≡ (M.Measure.count plan.old.measure) → length (names_of plan.new.groups.table) ≡ (M.Measure.count plan.old.measure) }
+    ensures done { (k : ℕ) (d : Step M.Cost) → k < length steps.old → Done M.Cost.CostKind.amount M.Cost.CostKind.plus M.Cost.CostKind.le (M.Measure.price plan.old.measure) (M.Measure.count plan.old.measure) (after plan.old.groups (calls_of (take k steps.old))) (slice_index_or steps.old k d) (slice_index_or steps.new k d) }
+    ensures certified { (k : ℕ) (d : Step M.Cost) → k < length steps.old → Certain M.Cost.CostKind.amount M.Cost.CostKind.plus M.Cost.CostKind.le (M.Measure.price plan.old.measure) (M.Measure.count plan.old.measure) (after plan.old.groups (calls_of (take k steps.old))) (slice_index_or steps.new k d) }
+    ensures standing { plan.new.groups ≡ after plan.old.groups (calls_of steps.old) }
     ensures measure { plan.new.measure ≡ plan.old.measure }
 {
     for step in steps.iter_mut() {
@@ -69,11 +57,12 @@ fn carry<M: Measure>(plan: &mut Plan<M>, steps: &mut [Step<M::Cost>])
 }
 
 // Carries the calls out in their order on a new plan, and gives it back. Each step then holds its answer, and its buffers are as the call leaves them.
+#[tactic(auto, using(crate::proofs::Carried::each_done, crate::proofs::Carried::each_certain, partition::proofs::Kept::sizes_are))]
 pub fn run<M: Measure>(measure: M, steps: &mut [Step<M::Cost>]) -> Plan<M>
     ensures done { Each (M.Measure.count measure) (Done M.Cost.CostKind.amount M.Cost.CostKind.plus M.Cost.CostKind.le (M.Measure.price measure) (M.Measure.count measure)) steps.old steps.new }
     ensures certified { Each (M.Measure.count measure) (λ names _ step. Certain M.Cost.CostKind.amount M.Cost.CostKind.plus M.Cost.CostKind.le (M.Measure.price measure) (M.Measure.count measure) names step) steps.old steps.new }
-    ensures standing { names_of result.groups.table ≡ standing_after (M.Measure.count measure) (calls_of steps.old) }
-    ensures sizes { sizes_of result.groups.table ≡ sizes (standing_after (M.Measure.count measure) (calls_of steps.old)) }
+    ensures standing { result.groups ≡ standing_after (M.Measure.count measure) (calls_of steps.old) }
+    ensures sizes { sizes_of result.groups ≡ sizes (standing_after (M.Measure.count measure) (calls_of steps.old)) }
     ensures measure { result.measure ≡ measure }
 {
     let mut plan = Plan::new(measure);

@@ -10,13 +10,14 @@ use partition::partition::Partition;
 use search::find::find_split;
 use std::{fmt, io};
 
+// Room for a line. (Each program stands alone, and has its own.)
 const NO_LINE: Line<Whole> = Line {
     t: 0,
     u: 0,
     cost: Whole { value: 0 },
 };
 
-// A mark row, printed as the parts that it puts on the second sheet.
+// A mark row, printed as the parts that it puts on the second sheet; a slice has no printed form of its own.
 #[derive(Drop)]
 struct Parts<'a>(&'a [u8]);
 
@@ -34,9 +35,8 @@ impl fmt::Display for Parts<'_> {
 fn price(rt: &HostRuntime, figure: &Nets, row: &[u8]) -> io::Result<()> {
     match figure.cost(row) {
         Ok(cost) => {
-            let amount = cost.counted();
             let parts = Parts(row);
-            println!(rt; "second sheet:{parts}, connectors cost {amount}")
+            println!(rt; "second sheet:{parts}, connectors cost {cost}")
         }
         Err(fault) => println!(rt; "row {row:?} is refused, {fault}"),
     }
@@ -44,19 +44,18 @@ fn price(rt: &HostRuntime, figure: &Nets, row: &[u8]) -> io::Result<()> {
 
 fn price_all(rt: &HostRuntime, figure: &Nets) -> io::Result<()> {
     let parts = figure.parts();
-    let ceiling = figure.ceiling().counted();
+    let ceiling = figure.ceiling();
     println!(rt;
         "The figure has {parts} parts. If every net were divided, the connectors would cost {ceiling}."
     )?;
     println!(rt; "Each part alone on the second sheet:")?;
-    price(rt, figure, &[1, 0, 0, 0])?;
-    price(rt, figure, &[0, 1, 0, 0])?;
-    price(rt, figure, &[0, 0, 1, 0])?;
-    price(rt, figure, &[0, 0, 0, 1])?;
+    for row in [[1, 0, 0, 0], [0, 1, 0, 0], [0, 0, 1, 0], [0, 0, 0, 1]] {
+        price(rt, figure, &row)?;
+    }
     println!(rt; "Two parts on each sheet:")?;
-    price(rt, figure, &[1, 1, 0, 0])?;
-    price(rt, figure, &[1, 0, 1, 0])?;
-    price(rt, figure, &[1, 0, 0, 1])?;
+    for row in [[1, 1, 0, 0], [1, 0, 1, 0], [1, 0, 0, 1]] {
+        price(rt, figure, &row)?;
+    }
     println!(rt; "Rows that are no division of this figure:")?;
     price(rt, figure, &[1, 0, 0])?;
     price(rt, figure, &[1, 0, 2, 0])
@@ -74,8 +73,8 @@ fn break_figure(rt: &HostRuntime, figure: &Nets) -> io::Result<()> {
             println!(rt;
                 "A division costs at least what the first line says whose two parts it puts on different sheets:"
             )?;
-            for (i, line) in lines.iter().enumerate() {
-                print_line(rt, i, line)?;
+            for (number, line) in (1..=3).zip(&lines) {
+                print_line(rt, number, line)?;
             }
             let best = found.best;
             println!(rt; "The best is line {best}, so this division is the cheapest:")?;
@@ -85,37 +84,18 @@ fn break_figure(rt: &HostRuntime, figure: &Nets) -> io::Result<()> {
     }
 }
 
-fn print_line(rt: &HostRuntime, i: usize, line: &Line<Whole>) -> io::Result<()> {
-    let number = i.saturating_add(1);
-    let t = line.t;
-    let u = line.u;
-    let amount = line.cost.counted();
-    println!(rt; "line {number}: parts {t} and {u}, {amount}")
+fn print_line(rt: &HostRuntime, number: usize, line: &Line<Whole>) -> io::Result<()> {
+    let Line { t, u, cost } = line;
+    println!(rt; "line {number}: parts {t} and {u}, {cost}")
 }
 
 fn run(rt: &HostRuntime) -> anyhow::Result<()> {
     let heap = rt.alloc();
     let nets = vec![in heap;
-        Net {
-            weight: 3,
-            first: 0,
-            count: 2
-        },
-        Net {
-            weight: 1,
-            first: 2,
-            count: 2
-        },
-        Net {
-            weight: 2,
-            first: 4,
-            count: 2
-        },
-        Net {
-            weight: 1,
-            first: 6,
-            count: 3
-        },
+        Net::new(3, 0, 2),
+        Net::new(1, 2, 2),
+        Net::new(2, 4, 2),
+        Net::new(1, 6, 3),
     ]?;
     let pins = vec![in heap; 0, 1, 1, 2, 2, 3, 0, 2, 3]?;
     match Nets::make(4, nets, pins) {
@@ -123,10 +103,7 @@ fn run(rt: &HostRuntime) -> anyhow::Result<()> {
             price_all(rt, &figure)?;
             break_figure(rt, &figure)?
         }
-        Err(refused) => {
-            let fault = refused.fault;
-            println!(rt; "the figure is refused, {fault}")?
-        }
+        Err(refused) => println!(rt; "the figure is refused, {refused}")?,
     }
     Ok(())
 }

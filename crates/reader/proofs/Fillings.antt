@@ -10,6 +10,7 @@ use Rattle.figure.specs.Reading.{in_file, read_rows}
 use Rattle.figure.specs.Rules.{letter_N, letter_C, letter_B, letter_W, range, rule, row_of}
 use Rattle.figure.specs.Tables.{Tables, tables, over, filled}
 use Rattle.figure.specs.declared.fault.RowFault.{RowFault}
+use Rattle.figure.specs.declared.header.Header.{Header}
 use Rattle.figure.specs.declared.stage.Stage.TheVariants.{Body}
 use Rattle.figure.proofs.Growing.{letter_cases}
 use Rattle.figure.proofs.Matrix.{shifted, column_fits, length_with_bits}
@@ -17,7 +18,7 @@ use Rattle.figure.proofs.Ranges.{In, outside_all}
 use Rattle.figure.proofs.Rows.{Accepted}
 use Rattle.figure.proofs.Sound.{Sound}
 use Rattle.reader.specs.Answers.{set_from}
-use Rattle.reader.specs.Laid.{add_bits, header, laid, moved, plus_bit, walked}
+use Rattle.reader.specs.Laid.{add_bits, laid, moved, plus_bit, walked}
 use Rattle.reader.proofs.SetFrom.{set_from_is}
 
 -- the stage moves with the state
@@ -29,12 +30,15 @@ moved_is (body c) l vs = ap Body (by (eqb l letter_N) (eqb l letter_C) (eqb l le
     pins : length c.pins + (length vs - 1) ≡ length (c.pins ++ drop 1 vs)
     pins = ap (λ m. length c.pins + m) (sym (length-drop 1 vs)) ∙ sym (length-append c.pins (drop 1 vs))
 
-    by : (n e b : Bool) → cond n (header (header_of c) ((header_of c).nets + 1) ((header_of c).pins + (length vs - 1)) (header_of c).closeness (header_of c).rows (header_of c).welds) (cond e (header (header_of c) (header_of c).nets (header_of c).pins ((header_of c).closeness + length vs) (header_of c).rows (header_of c).welds) (cond b (header (header_of c) (header_of c).nets (header_of c).pins (header_of c).closeness ((header_of c).rows + 1) (header_of c).welds) (header (header_of c) (header_of c).nets (header_of c).pins (header_of c).closeness (header_of c).rows ((header_of c).welds + 1))))
+    h : Header
+    h = header_of c
+
+    by : (n e b : Bool) → cond n (record h { nets = h.nets + 1; pins = h.pins + (length vs - 1) }) (cond e (record h { closeness = h.closeness + length vs }) (cond b (record h { rows = h.rows + 1 }) (record h { welds = h.welds + 1 })))
         ≡ header_of (cond n (with_net c vs) (cond e (with_entries c vs) (cond b (with_row c vs) (with_weld c vs))))
-    by true e b = ap₂ (λ x y. header (header_of c) x y (header_of c).closeness (header_of c).rows (header_of c).welds) (sym (length_push c.nets (net_at (length c.pins) vs))) pins
-    by false true b = ap (λ x. header (header_of c) (header_of c).nets (header_of c).pins x (header_of c).rows (header_of c).welds) (sym (length-append c.closeness vs))
+    by true e b = ap₂ (λ x y. record h { nets = x; pins = y }) (sym (length_push c.nets (net_at (length c.pins) vs))) pins
+    by false true b = ap (λ x. record h { closeness = x }) (sym (length-append c.closeness vs))
     by false false true = refl
-    by false false false = ap (λ x. header (header_of c) (header_of c).nets (header_of c).pins (header_of c).closeness (header_of c).rows x) (sym (length_push c.welds (weld_of vs)))
+    by false false false = ap (λ x. record h { welds = x }) (sym (length_push c.welds (weld_of vs)))
 
 -- the stage that the rows give is that of the state that they give
 pub walked_is : (w top r : ℕ) (s : State) (ps : List (List ℕ)) → walked w top r (stage_of s) ps ≡ and_then (read_rows w top r s ps) (λ g. Ok (stage_of g))

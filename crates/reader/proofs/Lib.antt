@@ -1,5 +1,5 @@
+pub mod Cuts
 pub mod Fielded
-pub mod Opened
 pub mod Rowed
 pub mod SetFrom
 pub mod Strays

@@ -1,35 +1,21 @@
 -- One row of a file. Assumes nothing.
-use Rattle.std.proofs.Common.{◌≡◌, ℕ, ◌<◌, ◌≤◌, Bool, true, false, cond, ◌&&◌, leb, List, [], length, take, Some, None, Ok, Err, Option, Result, sym, refl, ap, ◌∙◌, arith}
-use Rattle.std.proofs.lemmas.Bool.{cond-true, cond-false, and_right, lt-leb}
-use Rattle.std.proofs.lemmas.Bool.Decides.{nat_tests}
+use Rattle.std.proofs.Common.{◌≡◌, ℕ, ◌≤◌, Bool, true, false, cond, ◌&&◌, leb, List, [], length, take, Some, None, Ok, Err, Option, Result, sym, refl, ap, ◌∙◌, arith}
+use Rattle.std.proofs.lemmas.Bool.{cond-true}
 use Rattle.figure.specs.Cut.{and_then, opened, numbers, pieces}
 use Rattle.figure.specs.Rules.{in_place, rule_of, outside, ranged, judged, has_room, roomed, row_of}
 use Rattle.figure.specs.declared.fault.RowFault.{RowFault}
 use Rattle.figure.specs.declared.fault.RowFault.TheVariants.{Letter, Count}
 use Rattle.figure.specs.declared.rule.Rule.{Rule}
 use Rattle.figure.specs.declared.stage.Stage.{Stage}
-use Rattle.figure.specs.declared.stage.Stage.TheVariants.{Start, Sized, Body}
-use Rattle.reader.specs.Answers.{Few, Kept, forget}
+use Rattle.reader.specs.Answers.{Kept, forget}
 use Rattle.reader.proofs.SetFrom.{front_kept}
-
--- no row has more than 81 numbers
-most_of : (top : ℕ) (s : Stage) (l : ℕ) (vs : List ℕ) → Few s → (rule_of top s l vs).most ≤ 81
-most_of top Start l vs few = omega arith
-most_of top (Sized n) l vs few = omega arith
-most_of top (Body h) l vs few = let n = few.n in grind (arith, nat_tests)
 
 module _ (w top r : ℕ) (s : Stage) (t : List ℕ) where
   -- what follows the letter
   abbrev lettered : ℕ × List ℕ → Result (ℕ × List ℕ) RowFault
   lettered o = cond (in_place s o.0) (and_then (numbers r 1 [] (pieces w o.1)) (λ vs. and_then (judged r (rule_of top s o.0 vs) vs) (roomed r s o.0))) (Err (Letter r))
 
-  pub not_opened : (e : RowFault) → opened w r t ≡ Err e → row_of w top r s t ≡ Err e
-  not_opened e h = ap (λ o. and_then o lettered) h
-
   module _ (l : ℕ) (rest : List ℕ) (open_is : opened w r t ≡ Ok (l, rest)) where
-    pub out_of_place : in_place s l ≡ false → row_of w top r s t ≡ Err (Letter r)
-    out_of_place h = ap (λ o. and_then o lettered) open_is ∙ cond-false (in_place s l) _ _ h
-
     -- in place, the numbers decide
     abbrev numbered : Result (List ℕ) RowFault → Result (ℕ × List ℕ) RowFault
     numbered o = and_then o (λ vs. and_then (judged r (rule_of top s l vs) vs) (roomed r s l))
@@ -37,18 +23,9 @@ module _ (w top r : ℕ) (s : Stage) (t : List ℕ) where
     in_its_place : in_place s l ≡ true → row_of w top r s t ≡ numbered (numbers r 1 [] (pieces w rest))
     in_its_place h = ap (λ o. and_then o lettered) open_is ∙ cond-true (in_place s l) _ _ h
 
-    pub not_read : in_place s l ≡ true → (e : RowFault) → numbers r 1 [] (pieces w rest) ≡ Err e → row_of w top r s t ≡ Err e
-    not_read h e fails = in_its_place h ∙ ap numbered fails
-
     module _ (placed : in_place s l ≡ true) (vs : List ℕ) (read : numbers r 1 [] (pieces w rest) ≡ Ok vs) where
       decided : row_of w top r s t ≡ and_then (judged r (rule_of top s l vs) vs) (roomed r s l)
       decided = in_its_place placed ∙ ap numbered read
-
-      pub too_long : Few s → 81 < length vs → row_of w top r s t ≡ Err (Count r)
-      too_long few long =
-          let most = most_of top s l vs few in
-          let over : leb (length vs) (rule_of top s l vs).most ≡ false = lt-leb _ _ (omega arith) in
-          decided ∙ ap (λ o. and_then o (roomed r s l)) (cond-false (leb (rule_of top s l vs).fewest (length vs) && leb (length vs) (rule_of top s l vs).most) _ (Err (Count r)) (and_right (leb (rule_of top s l vs).fewest (length vs)) _ over))
 
       pub not_met : (e : RowFault) → Err e ≡ forget (and_then (judged r (rule_of top s l vs) vs) (roomed r s l)) → row_of w top r s t ≡ Err e
       not_met e h = decided ∙ forgot (and_then (judged r (rule_of top s l vs) vs) (roomed r s l)) e h

@@ -1,6 +1,6 @@
 -- Elements set one after another. Assumes nothing.
-use Rattle.std.proofs.Common.{◌≡◌, ℕ, suc, ◌+◌, ◌<◌, ◌≤◌, List, [], ◌∷◌, ◌++◌, length, get_or, take, drop, set, sym, refl, ap, ◌∙◌, ap₂, add-zero, arith}
-use Rattle.std.proofs.lemmas.List.{append_assoc, at_drop_all, at_drop_more, drop-set-lt, length-set, take-append-drop, take_at, take_more_set}
+use Rattle.std.proofs.Common.{◌≡◌, ℕ, suc, ◌+◌, ◌≤◌, List, [], ◌∷◌, ◌++◌, length, take, drop, set, sym, refl, ap, ◌∙◌, ap₂, add-zero, arith}
+use Rattle.std.proofs.lemmas.List.{append_assoc, drop-set-lt, length-set, take-append-drop, take_at, take_more_set}
 use Rattle.reader.specs.Answers.{set_from}
 
 -- one element more
@@ -23,12 +23,3 @@ set_from_is k (x ∷ xs) table room =
 -- from the front on, the front then holds just them
 pub front_kept : {X : Type 0} (xs table : List X) → length xs ≤ length table → take (length xs) (set_from 0 xs table) ≡ xs
 front_kept xs table room = ap (take (length xs)) (set_from_is 0 xs table (omega arith)) ∙ take_at xs (drop (0 + length xs) table) (length xs) refl
-
--- a loop that sets them one by one
-pub set_from_on : {X : Type 0} (d : X) (at i : ℕ) (xs table table' whole : List X) → i < length xs → table' ≡ set table (at + i) (get_or xs i d) → set_from (at + i) (drop i xs) table ≡ whole → set_from (at + (i + 1)) (drop (i + 1) xs) table' ≡ whole
-set_from_on d at i xs table table' whole within is so_far =
-    let next : at + (i + 1) ≡ at + i + 1 = omega arith in
-    ap₂ (λ k t. set_from k (drop (i + 1) xs) t) next is ∙ sym (at_drop_more (λ l. set_from (at + i) l table) xs i d within) ∙ so_far
-
-pub set_from_ends : {X : Type 0} (at i : ℕ) (xs table whole : List X) → length xs ≤ i → set_from (at + i) (drop i xs) table ≡ whole → table ≡ whole
-set_from_ends at i xs table whole all so_far = sym (at_drop_all (λ l. set_from (at + i) l table) xs i all) ∙ so_far

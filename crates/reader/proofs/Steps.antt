@@ -72,8 +72,8 @@ sized_few top l (v ∷ vs) a = (outside_in (rule 1 1 (range 2 80) (range 2 80)) 
 
 -- the maxima are kept
 pub few_more : (top : ℕ) (s : Stage) (l : ℕ) (vs : List ℕ) → Few s → Accepted top s l vs → Few (moved s l vs)
-few_more top Start l vs few a = sized_few top l vs a
-few_more top (Sized n) l vs few a = record { n = few; nets = omega arith; pins = omega arith; closeness = omega arith; rows = omega arith; welds = omega arith }
+few_more top Start l vs few a = record { n = sized_few top l vs a; nets = omega arith; pins = omega arith; closeness = omega arith; rows = omega arith; welds = omega arith }
+few_more top (Sized n) l vs few a = record { n = few.n; nets = omega arith; pins = omega arith; closeness = omega arith; rows = omega arith; welds = omega arith }
 few_more top (Body h) l vs few a = bounded_more top h l vs few a
 
 -- the tables' types hold the numbers

@@ -1,18 +1,23 @@
 -- The rows of a file, one after another. Assumes nothing.
-use Rattle.std.proofs.Common.{◌≡◌, ℕ, ◌+◌, ◌<◌, ◌≤◌, List, [], ◌∷◌, length, Ok, Err, Result, sym, refl, ap, ◌∙◌, ap₂, arith}
+use Rattle.std.proofs.Common.{◌≡◌, ℕ, ◌+◌, ◌<◌, ◌≤◌, List, ◌∷◌, length, Ok, Err, Result, sym, refl, ap, ◌∙◌, ap₂, arith}
 use Rattle.figure.specs.Cut.{and_then, cut}
-use Rattle.figure.specs.Reading.{in_file, ended}
+use Rattle.figure.specs.Reading.{in_file}
 use Rattle.figure.specs.Rules.{row_of}
 use Rattle.figure.specs.Tables.{Tables}
 use Rattle.figure.specs.declared.fault.FileFault.{FileFault}
 use Rattle.figure.specs.declared.fault.FileFault.TheVariants.{Row}
 use Rattle.figure.specs.declared.fault.RowFault.{RowFault}
-use Rattle.figure.specs.declared.fault.RowFault.TheVariants.{Unended}
 use Rattle.figure.specs.declared.stage.Stage.{Stage}
 use Rattle.figure.specs.declared.stage.Stage.TheVariants.{Start}
 use Rattle.figure.proofs.Cutting.{cut_cons}
 use Rattle.reader.specs.Answers.{Few}
+use Rattle.reader.specs.Lent.{Same}
+use Rattle.reader.specs.declared.tables.Tables.{Tables as Lent}
 use Rattle.reader.specs.Laid.{laid_at, laid_rows, moved, on_row, walked}
+
+-- the same lent memory, after two steps
+pub same_on : {a b c : Lent} → Same a b → Same b c → Same a c
+same_on p q = record { nets = q.nets ∙ p.nets; pins = q.pins ∙ p.pins; closeness = q.closeness ∙ p.closeness; columns = q.columns ∙ p.columns; welds = q.welds ∙ p.welds }
 
 module _ (w top : ℕ) where
   walked_more : (r : ℕ) (s : Stage) (t rest : List ℕ) → walked w top r s (t ∷ cut rest) ≡ and_then (in_file (row_of w top r s t)) (λ o. walked w top (r + 1) (moved s o.0 o.1) (cut rest))
@@ -33,26 +38,6 @@ module _ (w top : ℕ) where
     pub after : now ≡ laid_rows w top 1 Start (cut bytes) start
 
   module _ (bytes left : List ℕ) (r : ℕ) (s : Stage) (start now : Tables) (k : Walking bytes left r s start now) where
-    -- at the end of the text
-    pub walked_all : left ≡ [] → Stopped bytes start now (Ok s)
-    walked_all none =
-        record {
-          is = sym (ap (λ l. walked w top r s (cut l)) none) ∙ k.answer;
-          after = sym (ap (λ l. laid_rows w top r s (cut l) now) none) ∙ k.after;
-        }
-
-    -- at a last row without its byte 10
-    pub walked_unended : 0 < length left → cut left ≡ left ∷ [] → Stopped bytes start now (Err (Row (Unended r)))
-    walked_unended some alone =
-        record {
-          is = sym (unended left some) ∙ sym (ap (walked w top r s) alone) ∙ k.answer;
-          after = sym (ap (λ ps. laid_rows w top r s ps now) alone) ∙ k.after;
-        }
-      where
-        unended : (l : List ℕ) → 0 < length l → ended r l s ≡ Err (Row (Unended r))
-        unended [] some = absurd (omega arith)
-        unended (b ∷ l) some = refl
-
     module _ (t rest : List ℕ) (first : cut left ≡ t ∷ cut rest) where
       on : walked w top 1 Start (cut bytes) ≡ and_then (in_file (row_of w top r s t)) (λ o. walked w top (r + 1) (moved s o.0 o.1) (cut rest))
       on = sym k.answer ∙ ap (walked w top r s) first ∙ walked_more r s t rest

@@ -1,10 +1,12 @@
 -- What the functions of the reader answer, beside what the definitions say. Assumes nothing.
 use Rattle.std.specs.Prelude.{◌≡◌, ℕ, ◌+◌, ◌<◌, ◌≤◌, List, [], ◌∷◌, length, drop, Ok, Err, Result, slice_index, slice_set}
 use Rattle.columns.specs.declared.fault.FieldFault.{FieldFault}
+use Rattle.figure.specs.Content.{header_of, opening}
 use Rattle.figure.specs.Rules.{letter_B, letter_C, letter_N}
 use Rattle.figure.specs.declared.fault.FieldRefusal.{FieldRefusal}
 use Rattle.figure.specs.declared.fault.RowFault.{RowFault}
 use Rattle.figure.specs.declared.header.Header.{Header}
+use Rattle.figure.specs.declared.header.Kind.TheVariants.{Nets}
 use Rattle.figure.specs.declared.stage.Stage.{Stage}
 use Rattle.figure.specs.declared.stage.Stage.TheVariants.{Start, Sized, Body}
 
@@ -42,10 +44,14 @@ pub record Bounded (h : Header) : Type 0 where
   pub rows : h.rows ≤ 64
   pub welds : h.welds ≤ 200
 
+-- what the rows so far count: of the first one its parts alone, and before it nothing
+abbrev pub counts : Stage → Header
+counts Start = header_of (opening 0 Nets 0 0)
+counts (Sized n) = header_of (opening n Nets 0 0)
+counts (Body h) = h
+
 abbrev pub Few : Stage → Type 0
-Few Start = Unit {0}
-Few (Sized n) = n ≤ 80
-Few (Body h) = Bounded h
+Few s = Bounded (counts s)
 
 -- what laying a row after the first two asks of its numbers, so that the tables' types hold them
 pub record Fit (h : Header) (l : ℕ) (vs : List ℕ) : Type 0 where

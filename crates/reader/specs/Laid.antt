@@ -5,7 +5,7 @@ use Rattle.figure.specs.Cut.{and_then}
 use Rattle.figure.specs.Kinds.{kind_of}
 use Rattle.figure.specs.Reading.{ended, in_file}
 use Rattle.figure.specs.Rules.{letter_B, letter_C, letter_N, row_of}
-use Rattle.figure.specs.Tables.{Tables, tables}
+use Rattle.figure.specs.Tables.{Tables}
 use Rattle.figure.specs.declared.fault.FileFault.{FileFault}
 use Rattle.figure.specs.declared.fault.RowFault.{RowFault}
 use Rattle.figure.specs.declared.header.Header.{Header}
@@ -13,16 +13,12 @@ use Rattle.figure.specs.declared.stage.Stage.{Stage}
 use Rattle.figure.specs.declared.stage.Stage.TheVariants.{Body, Sized, Start}
 use Rattle.reader.specs.Answers.{set_from}
 
-abbrev pub header : Header → ℕ → ℕ → ℕ → ℕ → ℕ → Header
-header h nets pins closeness rows welds =
-    record { n = h.n; kind = h.kind; p = h.p; q = h.q; nets = nets; pins = pins; closeness = closeness; rows = rows; welds = welds }
-
 -- one row more, with m numbers
 abbrev pub counted : Header → ℕ → ℕ → Header
 counted h l m =
-    cond (l == letter_N) (header h (h.nets + 1) (h.pins + (m - 1)) h.closeness h.rows h.welds)
-    (cond (l == letter_C) (header h h.nets h.pins (h.closeness + m) h.rows h.welds)
-    (cond (l == letter_B) (header h h.nets h.pins h.closeness (h.rows + 1) h.welds) (header h h.nets h.pins h.closeness h.rows (h.welds + 1))))
+    cond (l == letter_N) (record h { nets = h.nets + 1; pins = h.pins + (m - 1) })
+    (cond (l == letter_C) (record h { closeness = h.closeness + m })
+    (cond (l == letter_B) (record h { rows = h.rows + 1 }) (record h { welds = h.welds + 1 })))
 
 -- the stage after a row with this letter and these numbers
 abbrev pub moved : Stage → ℕ → List ℕ → Stage
@@ -42,10 +38,9 @@ add_bits i j (v ∷ vs) columns = add_bits i (j + 1) vs (slice_set columns j (pl
 -- a row laid into the tables, at the places that the header counts; past a table's end nothing is set
 abbrev pub laid : Header → ℕ → List ℕ → Tables → Tables
 laid h l vs t =
-    cond (l == letter_N) (tables (slice_set t.nets h.nets (net_at h.pins vs)) (set_from h.pins (drop 1 vs) t.pins) t.closeness t.columns t.welds)
-    (cond (l == letter_C) (tables t.nets t.pins (set_from h.closeness vs t.closeness) t.columns t.welds)
-    (cond (l == letter_B) (tables t.nets t.pins t.closeness (add_bits h.rows 0 vs t.columns) t.welds)
-    (tables t.nets t.pins t.closeness t.columns (slice_set t.welds h.welds (weld_of vs)))))
+    cond (l == letter_N) (record t { nets = slice_set t.nets h.nets (net_at h.pins vs); pins = set_from h.pins (drop 1 vs) t.pins })
+    (cond (l == letter_C) (record t { closeness = set_from h.closeness vs t.closeness })
+    (cond (l == letter_B) (record t { columns = add_bits h.rows 0 vs t.columns }) (record t { welds = slice_set t.welds h.welds (weld_of vs) })))
 
 abbrev pub laid_at : Stage → ℕ → List ℕ → Tables → Tables
 laid_at Start l vs t = t

@@ -3,8 +3,12 @@
 
 mod cut;
 mod fields;
+mod format;
 mod lay;
+mod progress;
+mod reading;
 mod row;
 mod rules;
 mod stages;
+mod tables;
 mod walk;

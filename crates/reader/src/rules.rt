@@ -1,48 +1,47 @@
-// The rule of each row.
-ghost use Rattle.std.specs.Prelude.{◌≡◌, ◌≤◌, length, slice_index};
+// The rule of each row. A file's letters and stages are data of the file, so a row is matched on them.
+ghost use Rattle.std.specs.Prelude.{◌≡◌, ◌<◌, not, length, position, IfSome};
 ghost use Rattle.figure.specs.Kinds.{kind_of, multipliers as multipliers'};
-ghost use Rattle.figure.specs.Rules.{body_rule, has_room, in_place, judged, outside as outside', rule_of, stray, within as within'};
-ghost use Rattle.reader.specs.Answers.{Bounded, Few, forget};
+ghost use Rattle.figure.specs.Rules.{body_rule, has_room, in_place, judged, outside as outside', range as range', rule as rule', rule_of, within as within'};
+ghost use Rattle.reader.specs.Answers.{forget};
 
+use crate::format::Format;
+use crate::progress::Progress;
+use crate::row::{MOST, Row, number_at};
 use figure::fault::{Place, RowFault};
-use figure::header::{Header, Kind};
+use figure::header::Kind;
 use figure::rule::{Range, Rule};
 use figure::stage::Stage;
 
-// May a row with this letter come now?
-pub(crate) fn is_in_place(stage: Stage, letter: u8) -> bool
-    ensures answer { result ≡ in_place stage letter }
+fn range(low: u64, high: u64) -> Range
+    ensures answer { result ≡ range' low high }
 {
-    match stage {
-        Stage::Start => letter == b'F',
-        Stage::Sized(_) => letter == b'M',
-        Stage::Body(header) => match letter {
-            b'N' => (header.closeness == 0) & (header.rows == 0) & (header.welds == 0),
-            b'C' => (header.rows == 0) & (header.welds == 0),
-            b'B' => header.welds == 0,
-            _ => letter == b'W',
-        },
+    Range { low, high }
+}
+
+fn rule(fewest: usize, most: usize, first: Range, rest: Range) -> Rule
+    ensures answer { result ≡ rule' fewest most first rest }
+{
+    Rule {
+        fewest,
+        most,
+        first,
+        rest,
     }
 }
 
+// The kind with a number. Any other number is outside the row's range, and counts as the last kind's.
 pub(crate) fn kind_of(number: u64) -> Kind
     ensures answer { result ≡ kind_of number }
 {
-    match number {
-        1 => Kind::Nets,
-        2 => Kind::Closeness,
-        3 => Kind::Coder,
-        4 => Kind::Sum,
-        _ => Kind::Tie,
-    }
+    Kind::try_from(number).unwrap_or(Kind::Tie)
 }
 
 fn multipliers(kind: Kind) -> Range
     ensures answer { result ≡ multipliers' kind }
 {
     match kind {
-        Kind::Sum => Range { low: 1, high: 1000 },
-        _ => Range { low: 0, high: 0 },
+        Kind::Sum => range(1, 1000),
+        _ => range(0, 0),
     }
 }
 
@@ -50,73 +49,14 @@ fn multipliers(kind: Kind) -> Range
 fn body_rule(largest: u64, n: usize, letter: u8) -> Rule
     ensures answer { result ≡ body_rule largest n letter }
 {
-    let entry = Range {
-        low: 0,
-        high: largest,
-    };
-    let part = Range {
-        low: 0,
-        high: n.saturating_sub(1) as u64,
-    };
-    let bit = Range { low: 0, high: 1 };
+    let entry = range(0, largest);
+    let part = range(0, n.saturating_sub(1) as u64);
+    let bit = range(0, 1);
     match letter {
-        b'N' => Rule {
-            fewest: 2,
-            most: 81,
-            first: entry,
-            rest: part,
-        },
-        b'C' => Rule {
-            fewest: n,
-            most: n,
-            first: entry,
-            rest: entry,
-        },
-        b'B' => Rule {
-            fewest: n,
-            most: n,
-            first: bit,
-            rest: bit,
-        },
-        _ => Rule {
-            fewest: 2,
-            most: 2,
-            first: part,
-            rest: part,
-        },
-    }
-}
-
-// The number at a place, or 0 where there is none.
-pub(crate) fn number_at(numbers: &[u64], at: usize) -> u64
-    ensures answer { result ≡ slice_index numbers.now at }
-{
-    if at < numbers.len() { numbers[at] } else { 0 }
-}
-
-pub(crate) fn rule_for(largest: u64, stage: Stage, letter: u8, numbers: &[u64]) -> Rule
-    ensures answer { result ≡ rule_of largest stage letter numbers.now }
-{
-    match stage {
-        Stage::Start => {
-            let parts = Range { low: 2, high: 80 };
-            Rule {
-                fewest: 1,
-                most: 1,
-                first: parts,
-                rest: parts,
-            }
-        }
-        Stage::Sized(_) => {
-            let kinds = Range { low: 1, high: 5 };
-            Rule {
-                fewest: 3,
-                most: 3,
-                first: kinds,
-                rest: multipliers(kind_of(number_at(numbers, 0))),
-            }
-        }
-        Stage::Body(header) => body_rule(largest, header.n, letter),
+        b'N' => rule(2, MOST, entry, part),
+        b'C' => rule(n, n, entry, entry),
+        b'B' => rule(n, n, bit, bit),
+        _ => rule(2, 2, part, part),
     }
 }
 
@@ -126,72 +66,88 @@ fn is_within(range: Range, number: u64) -> bool
     (range.low <= number) & (number <= range.high)
 }
 
-// The first of the numbers after a row's first one that is outside the range, by its field.
+// The place of the first number outside the range.
 fn first_stray(range: Range, numbers: &[u64]) -> Option<usize>
-    requires few { length numbers.now ≤ 81 }
-    ensures answer { result ≡ stray range 2 numbers.now }
+    ensures answer { result ≡ position (λ v. not (within' range v)) numbers.now }
+    ensures inside { IfSome result (λ i. i < length numbers.now) }
 {
-    for (i, number) in numbers.iter().enumerate() {
-        if !is_within(range, *number) {
-            return Some(i + 2);
-        }
-    }
-    None
+    numbers.iter().position(|number| !is_within(range, *number))
 }
 
 // The field of a row's first number outside its range.
-fn first_outside(rule: Rule, numbers: &[u64]) -> Option<usize>
-    requires few { length numbers.now ≤ 81 }
-    ensures answer { result ≡ outside' rule numbers.now }
+#[tactic(auto, using(crate::proofs::Strays::outside_is))]
+fn first_outside(rule: Rule, row: Row<'_>) -> Option<usize>
+    ensures answer { result ≡ outside' rule row.entry.numbers.now }
 {
-    match numbers {
+    match row.numbers {
         [] => None,
-        [first, rest @ ..] => {
-            if !is_within(rule.first, *first) {
-                return Some(1);
-            }
-            first_stray(rule.rest, rest)
+        [first, ..] if !is_within(rule.first, *first) => Some(1),
+        [_, rest @ ..] => Some(first_stray(rule.rest, rest)? + 2),
+    }
+}
+
+impl Progress {
+    // May a row with this letter come now?
+    pub(crate) fn is_in_place(self, letter: u8) -> bool
+        ensures answer { result ≡ in_place self.stage letter }
+    {
+        match self.stage {
+            Stage::Start => letter == b'F',
+            Stage::Sized(_) => letter == b'M',
+            Stage::Body(header) => match letter {
+                b'N' => (header.closeness == 0) & (header.rows == 0) & (header.welds == 0),
+                b'C' => (header.rows == 0) & (header.welds == 0),
+                b'B' => header.welds == 0,
+                _ => letter == b'W',
+            },
         }
     }
-}
 
-// Are there as many numbers as the rule wants, each in its range?
-pub(crate) fn judge(row: usize, rule: Rule, numbers: &[u64]) -> Result<(), RowFault>
-    requires few { length numbers.now ≤ 81 }
-    ensures answer { result ≡ forget (judged row rule numbers.now) }
-{
-    if numbers.len() < rule.fewest || numbers.len() > rule.most {
-        return Err(RowFault::Count(row));
+    fn rule(self, format: Format, row: Row<'_>) -> Rule
+        ensures answer { result ≡ rule_of format.largest self.stage row.entry.letter row.entry.numbers.now }
+    {
+        match self.stage {
+            Stage::Start => rule(1, 1, range(2, 80), range(2, 80)),
+            Stage::Sized(_) => rule(
+                3,
+                3,
+                range(1, 5),
+                multipliers(kind_of(number_at(row.numbers, 0))),
+            ),
+            Stage::Body(header) => body_rule(format.largest, header.n, row.letter),
+        }
     }
-    match first_outside(rule, numbers) {
-        Some(field) => Err(RowFault::Range(Place { row, field })),
-        None => Ok(()),
-    }
-}
 
-// Of a row after the first two.
-fn is_body_room(header: Header, letter: u8, count: usize) -> bool
-    requires few { Bounded header }
-    requires short { count ≤ 81 }
-    ensures answer { result ≡ has_room (Stage.Body header) letter count }
-{
-    match letter {
-        b'N' => (header.nets < 500) & (header.pins + count.saturating_sub(1) <= 4000),
-        b'C' => header.closeness < header.n * header.n,
-        b'B' => header.rows < 64,
-        _ => header.welds < 200,
+    // Has the row as many numbers as its rule wants, each in its range?
+    pub(crate) fn judge(self, format: Format, row: Row<'_>) -> Result<(), RowFault>
+        ensures answer { result ≡ forget (judged self.row (rule_of format.largest self.stage row.entry.letter row.entry.numbers.now) row.entry.numbers.now) }
+    {
+        let rule = self.rule(format, row);
+        if row.numbers.len() < rule.fewest || row.numbers.len() > rule.most {
+            return Err(RowFault::Count(self.row));
+        }
+        match first_outside(rule, row) {
+            Some(field) => Err(RowFault::Range(Place {
+                row: self.row,
+                field,
+            })),
+            None => Ok(()),
+        }
     }
-}
 
-// Is there room for one more row with this letter and so many numbers?
-pub(crate) fn is_room(stage: Stage, letter: u8, count: usize) -> bool
-    requires few { Few stage }
-    requires short { count ≤ 81 }
-    ensures answer { result ≡ has_room stage letter count }
-{
-    match stage {
-        Stage::Start => true,
-        Stage::Sized(_) => true,
-        Stage::Body(header) => is_body_room(header, letter, count),
+    // Is there room for one more row?
+    pub(crate) fn has_room(self, row: Row<'_>) -> bool
+        ensures answer { result ≡ has_room self.stage row.entry.letter (length row.entry.numbers.now) }
+    {
+        let Stage::Body(header) = self.stage else {
+            return true;
+        };
+        match row.letter {
+            b'N' => (header.nets < 500)
+                & (header.pins + row.numbers.len().saturating_sub(1) <= 4000),
+            b'C' => header.closeness < header.n * header.n,
+            b'B' => header.rows < 64,
+            _ => header.welds < 200,
+        }
     }
 }

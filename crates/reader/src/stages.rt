@@ -1,38 +1,12 @@
-// How a row moves the stage.
-ghost use Rattle.std.specs.Prelude.{◌≡◌, ◌≤◌, length};
-ghost use Rattle.reader.specs.Answers.{Bounded, Few};
-ghost use Rattle.reader.specs.Laid.{counted, moved};
+// How a row moves the stage. A file's letters and stages are data of the file, so a row is matched on them.
+ghost use Rattle.std.specs.Prelude.{◌≡◌};
+ghost use Rattle.reader.specs.Laid.{moved};
 
-use crate::rules::{kind_of, number_at};
+use crate::progress::Progress;
+use crate::row::{Row, number_at};
+use crate::rules::kind_of;
 use figure::header::Header;
 use figure::stage::Stage;
-
-// One row more after the first two, with so many numbers.
-fn count_row(header: Header, letter: u8, numbers: usize) -> Header
-    requires few { Bounded header }
-    requires short { numbers ≤ 81 }
-    ensures answer { result ≡ counted header letter numbers }
-{
-    match letter {
-        b'N' => Header {
-            nets: header.nets + 1,
-            pins: header.pins + numbers.saturating_sub(1),
-            ..header
-        },
-        b'C' => Header {
-            closeness: header.closeness + numbers,
-            ..header
-        },
-        b'B' => Header {
-            rows: header.rows + 1,
-            ..header
-        },
-        _ => Header {
-            welds: header.welds + 1,
-            ..header
-        },
-    }
-}
 
 // The header after the second row.
 fn opening(n: usize, numbers: &[u64]) -> Header
@@ -51,15 +25,34 @@ fn opening(n: usize, numbers: &[u64]) -> Header
     }
 }
 
-// The stage after a row.
-pub(crate) fn advance(stage: Stage, letter: u8, numbers: &[u64]) -> Stage
-    requires few { Few stage }
-    requires short { length numbers.now ≤ 81 }
-    ensures answer { result ≡ moved stage letter numbers.now }
-{
-    match stage {
-        Stage::Start => Stage::Sized(number_at(numbers, 0) as usize),
-        Stage::Sized(n) => Stage::Body(opening(n, numbers)),
-        Stage::Body(header) => Stage::Body(count_row(header, letter, numbers.len())),
+impl Progress {
+    // The stage after a row.
+    pub(crate) fn stage_after(self, row: Row<'_>) -> Stage
+        ensures answer { result ≡ moved self.stage row.entry.letter row.entry.numbers.now }
+    {
+        let count = row.numbers.len();
+        match self.stage {
+            Stage::Start => Stage::Sized(number_at(row.numbers, 0) as usize),
+            Stage::Sized(n) => Stage::Body(opening(n, row.numbers)),
+            Stage::Body(header) => Stage::Body(match row.letter {
+                b'N' => Header {
+                    nets: header.nets + 1,
+                    pins: header.pins + count.saturating_sub(1),
+                    ..header
+                },
+                b'C' => Header {
+                    closeness: header.closeness + count,
+                    ..header
+                },
+                b'B' => Header {
+                    rows: header.rows + 1,
+                    ..header
+                },
+                _ => Header {
+                    welds: header.welds + 1,
+                    ..header
+                },
+            }),
+        }
     }
 }

@@ -8,30 +8,16 @@ use nets::net::Net;
 use nets::nets::Nets;
 use plan::call::{Answer, Call, Step};
 use plan::run::run;
+use search::split::Split;
 use std::alloc::{AllocError, Global};
-use std::{fmt, io};
+use std::io;
 
+// Room for a line. (Each program stands alone, and has its own.)
 const NO_LINE: Line<Whole> = Line {
     t: 0,
     u: 0,
     cost: Whole { value: 0 },
 };
-
-// A call, printed as a drafter writes it.
-#[derive(Drop)]
-struct Shown(Call);
-
-impl fmt::Display for Shown {
-    fn fmt<W: fmt::Write>(&self, f: &mut fmt::Formatter<W>) -> fmt::Result {
-        match self.0 {
-            Call::Weld(a, b) => write!(f, "weld({a}, {b})"),
-            Call::Release(a) => write!(f, "release({a})"),
-            Call::Group(a) => write!(f, "group({a})"),
-            Call::Cost => write!(f, "cost"),
-            Call::Split => write!(f, "split"),
-        }
-    }
-}
 
 fn step(heap: Global, call: Call) -> Result<Step<Whole>, AllocError> {
     Ok(Step {
@@ -64,10 +50,8 @@ fn steps(heap: Global) -> Result<Vec<Step<Whole>>, AllocError> {
 // The lines that a split wrote, and the parts that it marked.
 fn print_split(rt: &HostRuntime, step: &Step<Whole>, lines: usize) -> io::Result<()> {
     for line in step.lines.iter().take(lines) {
-        let t = line.t;
-        let u = line.u;
-        let amount = line.cost.counted();
-        println!(rt; "  line ({t}, {u}, {amount})")?;
+        let Line { t, u, cost } = line;
+        println!(rt; "  line ({t}, {u}, {cost})")?;
     }
     print!(rt; "  second sheet:")?;
     for (part, mark) in step.row.iter().enumerate() {
@@ -79,7 +63,7 @@ fn print_split(rt: &HostRuntime, step: &Step<Whole>, lines: usize) -> io::Result
 }
 
 fn print_step(rt: &HostRuntime, step: &Step<Whole>) -> io::Result<()> {
-    let call = Shown(step.call);
+    let call = step.call;
     match &step.answer {
         Answer::Open => println!(rt; "{call} was not carried out"),
         Answer::Weld(Ok(joined)) => {
@@ -88,15 +72,9 @@ fn print_step(rt: &HostRuntime, step: &Step<Whole>) -> io::Result<()> {
         }
         Answer::Release(Ok(groups)) => println!(rt; "{call} answers {groups}"),
         Answer::Group(Ok(name)) => println!(rt; "{call} answers {name}"),
-        Answer::Cost(Ok(cost)) => {
-            let amount = cost.counted();
-            println!(rt; "{call} answers {amount}")
-        }
-        Answer::Split(Ok(split)) => {
-            let amount = split.cost.counted();
-            let groups = split.groups;
-            let best = split.best;
-            println!(rt; "{call} answers cost {amount}, {groups} groups, best line {best}")?;
+        Answer::Cost(Ok(cost)) => println!(rt; "{call} answers {cost}"),
+        Answer::Split(Ok(Split { cost, groups, best })) => {
+            println!(rt; "{call} answers cost {cost}, {groups} groups, best line {best}")?;
             print_split(rt, step, groups.saturating_sub(1))
         }
         Answer::Weld(Err(fault)) => println!(rt; "{call} is refused, {fault}"),
@@ -110,26 +88,10 @@ fn print_step(rt: &HostRuntime, step: &Step<Whole>) -> io::Result<()> {
 fn carry_out(rt: &HostRuntime) -> anyhow::Result<()> {
     let heap = rt.alloc();
     let nets = vec![in heap;
-        Net {
-            weight: 3,
-            first: 0,
-            count: 2
-        },
-        Net {
-            weight: 1,
-            first: 2,
-            count: 2
-        },
-        Net {
-            weight: 2,
-            first: 4,
-            count: 2
-        },
-        Net {
-            weight: 1,
-            first: 6,
-            count: 3
-        },
+        Net::new(3, 0, 2),
+        Net::new(1, 2, 2),
+        Net::new(2, 4, 2),
+        Net::new(1, 6, 3),
     ]?;
     let pins = vec![in heap; 0, 1, 1, 2, 2, 3, 0, 2, 3]?;
     let mut steps = steps(heap)?;
@@ -140,10 +102,7 @@ fn carry_out(rt: &HostRuntime) -> anyhow::Result<()> {
                 print_step(rt, step)?;
             }
         }
-        Err(refused) => {
-            let fault = refused.fault;
-            println!(rt; "the figure is refused, {fault}")?;
-        }
+        Err(refused) => println!(rt; "the figure is refused, {refused}")?,
     }
     Ok(())
 }

@@ -42,12 +42,12 @@ module _ {n : ℕ} {names : List ℕ} (grouped : Grouped n names) where
       among_kept _ (range_with_len 0 (length names)) p
       ∙ and_from _ _ (unordered_is grouped ordered p ∙ is_free _ _ h k) (among_counting p 0 (length names) (omega arith) (omega (arith, standing_part grouped p h)))
 
-  out_left : (ordered : List ℕ) (p : ℕ) → among (left names (taken names ordered)) p ≡ true → (stands names p ≡ true) × (among ordered p ≡ false)
+  pub out_left : (ordered : List ℕ) (p : ℕ) → among (left names (taken names ordered)) p ≡ true → (stands names p ≡ true) × (among ordered p ≡ false)
   out_left ordered p h =
       free_is _ _ _ (ap (λ b. b && among (range_with_len 0 (length names)) p) (sym (unordered_is grouped ordered p)) ∙ sym (among_kept _ (range_with_len 0 (length names)) p) ∙ h)
 
   -- one more ordered, one fewer left
-  fewer : (ordered : List ℕ) (m : ℕ) → stands names m ≡ true → among ordered m ≡ false →
+  pub fewer : (ordered : List ℕ) (m : ℕ) → stands names m ≡ true → among ordered m ≡ false →
       length (left names (taken names ordered)) ≡ suc (length (left names (taken names (m ∷ ordered))))
   fewer ordered m h k =
       kept_less _ _ m (unordered_is grouped ordered m ∙ is_free _ _ h k) (unordered_is grouped (m ∷ ordered) m ∙ taken_now _ _ (eqb m m) (eq-eqb m m refl))

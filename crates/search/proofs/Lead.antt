@@ -1,81 +1,69 @@
--- A loop that keeps the leader so far ends with the first name that none beats. Assumes nothing.
-use Rattle.std.proofs.Common.{◌≡◌, ℕ, zero, suc, ◌+◌, ◌<◌, ◌≤◌, Bool, true, false, List, filter, sym, ap, ◌∙◌, subst, inl, inr, arith}
-use Rattle.std.specs.List.{range_with_len}
+-- The first name that none beats, found name by name. Assumes nothing.
+use Rattle.std.proofs.Common.{◌≡◌, ℕ, Bool, true, false, not, ◌&&◌, eqb, List, [], ◌∷◌, ◌++◌, sym, refl, ap, ◌∙◌, subst, inl, inr, arith}
 use Rattle.std.specs.Cmp.{IsStrictWeakOrder}
-use Rattle.std.proofs.lemmas.Bool.{cases_eq, cases_Bool, and_parts, and_from, both_ways, cond-true, cond-false}
+use Rattle.std.proofs.lemmas.Bool.{cases_Bool, both_ways, cond-true, cond-false, and_from, or_left, or_right, or_cases, eq-eqb, eqb-true, not_from_false}
 use Rattle.search.specs.Order.{unbeaten, first_unbeaten}
-use Rattle.search.proofs.Choice.{from_unbeaten, to_unbeaten, self}
-use Rattle.search.proofs.Among.{among_kept, among_counting, counting_among}
+use Rattle.search.proofs.Choice.{self, first_found, to_unbeaten}
+use Rattle.search.proofs.Sets.{among}
 
--- among the names below i that pass q, b leads: none of them beats it, and it beats each lower one
-pub record Lead (q : ℕ → Bool) (wins : ℕ → ℕ → Bool) (i b : ℕ) : Type 0 where
-  pub below : b < i
-  pub fits : q b ≡ true
-  pub holds : (v : ℕ) → v < i → q v ≡ true → wins v b ≡ false
-  pub ahead : (v : ℕ) → v < b → q v ≡ true → wins b v ≡ true
+module _ (none : ℕ) (wins : ℕ → ℕ → Bool) where
+  abbrev pub leader : List ℕ → ℕ
+  leader us = first_unbeaten none wins us us
 
-module _ (q : ℕ → Bool) (wins : ℕ → ℕ → Bool) (order : IsStrictWeakOrder wins) where
-  pub lead_first : (i : ℕ) → ((v : ℕ) → v < i → q v ≡ false) → q i ≡ true → Lead q wins (i + 1) i
-  lead_first i none h = record {
-    below = omega arith;
-    fits = h;
-    holds = λ v l k. elim (cases_eq v i) [ inl e ↦ subst (λ x. wins x i ≡ false) (sym e) (self 0 wins order i) | inr e ↦ absurd (both_ways _ (none v (omega arith)) k) ];
-    ahead = λ v l k. absurd (both_ways _ (none v l) k);
-  }
+  unbeaten_push : (us : List ℕ) (x v : ℕ) → unbeaten wins (us ++ (x ∷ [])) v ≡ (unbeaten wins us v && not (wins x v))
+  unbeaten_push [] x v = and_true (not (wins x v))
+    where
+      and_true : (a : Bool) → (a && true) ≡ a
+      and_true a = grind arith
+  unbeaten_push (u ∷ us) x v = ap (λ b. not (wins u v) && b) (unbeaten_push us x v) ∙ regroup (not (wins u v)) (unbeaten wins us v) (not (wins x v))
+    where
+      regroup : (a b c : Bool) → (a && (b && c)) ≡ ((a && b) && c)
+      regroup a b c = grind arith
 
-  pub lead_keeps : (i b : ℕ) → Lead q wins i b → (q i ≡ true → wins i b ≡ false) → Lead q wins (i + 1) b
-  lead_keeps i b lead h = record {
-    below = omega (arith, lead.below);
-    fits = lead.fits;
-    holds = λ v l k. elim (cases_eq v i) [ inl e ↦ subst (λ x. wins x b ≡ false) (sym e) (h (subst (λ x. q x ≡ true) e k)) | inr e ↦ lead.holds v (omega arith) k ];
-    ahead = lead.ahead;
-  }
+  -- where each of some names is beaten, the rest decides
+  skip : (all us rest : List ℕ) → ((v : ℕ) → among us v ≡ true → unbeaten wins all v ≡ false) → first_unbeaten none wins all (us ++ rest) ≡ first_unbeaten none wins all rest
+  skip all [] rest h = refl
+  skip all (u ∷ us) rest h =
+      cond-false _ _ _ (h u (or_left _ _ (eq-eqb u u refl))) ∙ skip all us rest (λ v k. h v (or_right _ _ k))
 
-  pub lead_takes : (i b : ℕ) → Lead q wins i b → q i ≡ true → wins i b ≡ true → Lead q wins (i + 1) i
-  lead_takes i b lead h w = record {
-    below = omega arith;
-    fits = h;
-    holds = λ v l k. elim (cases_eq v i) [
-      | inl e ↦ subst (λ x. wins x i ≡ false) (sym e) (self 0 wins order i)
-      | inr e ↦ order.chain v b i (lead.holds v (omega arith) k) (order.one_way i b w)
-    ];
-    ahead = λ v l k. elim (cases_Bool (wins i v)) [ inl e ↦ e | inr e ↦ absurd (both_ways _ (order.chain i v b e (lead.holds v l k)) w) ];
-  }
-
--- the leader of all is the first that none beats
-module _ (q : ℕ → Bool) (wins : ℕ → ℕ → Bool) (none n b : ℕ) (lead : Lead q wins n b) where
-  abbrev all : List ℕ
-  all = filter q (range_with_len 0 n)
-
-  b_unbeaten : unbeaten wins all b ≡ true
-  b_unbeaten =
-      to_unbeaten none wins all b
-      (λ v h. let k = and_parts _ _ (sym (among_kept q (range_with_len 0 n) v) ∙ h) in lead.holds v (omega (arith, counting_among v 0 n k.1)) k.0)
-
-  lower_beaten : (v : ℕ) → v < b → q v ≡ true → unbeaten wins all v ≡ false
-  lower_beaten v l h =
-      elim (cases_Bool (unbeaten wins all v)) [
+  -- the first that none of `all` beats is the first that none of `more` beats, where all others stay beaten
+  keep : (all more us rest : List ℕ) → ((v : ℕ) → unbeaten wins all v ≡ false → unbeaten wins more v ≡ false) →
+      among us (first_unbeaten none wins all us) ≡ true → unbeaten wins more (first_unbeaten none wins all us) ≡ true →
+      first_unbeaten none wins more (us ++ rest) ≡ first_unbeaten none wins all us
+  keep all more [] rest h i j = absurd (both_ways _ refl i)
+  keep all more (u ∷ us) rest h i j =
+      elim (cases_Bool (unbeaten wins all u)) [
         | inl e ↦
-            let k = from_unbeaten none wins all v e b (among_kept q (range_with_len 0 n) b ∙ and_from _ _ lead.fits (among_counting b 0 n (omega arith) (omega (arith, lead.below)))) in
-            absurd (both_ways _ k (lead.ahead v l h))
-        | inr e ↦ e
-      ]
-
-  scan : (a k : ℕ) → a ≤ b → b < a + k → first_unbeaten none wins all (filter q (range_with_len a k)) ≡ b
-  scan a zero h l = absurd (omega arith)
-  scan a (suc k) h l =
-      elim (cases_eq a b) [
-        | inl e ↦
-            ap (first_unbeaten none wins all) (cond-true (q a) _ _ (subst (λ x. q x ≡ true) (sym e) lead.fits))
-            ∙ cond-true _ a _ (subst (λ x. unbeaten wins all x ≡ true) (sym e) b_unbeaten)
-            ∙ e
+            let here : first_unbeaten none wins all (u ∷ us) ≡ u = cond-true _ _ _ e in
+            cond-true _ _ _ (subst (λ x. unbeaten wins more x ≡ true) here j) ∙ sym here
         | inr e ↦
-            let rest = scan (a + 1) k (omega arith) (omega arith) in
-            elim (cases_Bool (q a)) [
-              | inl o ↦ ap (first_unbeaten none wins all) (cond-true (q a) _ _ o) ∙ cond-false _ a _ (lower_beaten a (omega arith) o) ∙ rest
-              | inr o ↦ ap (first_unbeaten none wins all) (cond-false (q a) _ _ o) ∙ rest
-            ]
+            let there : first_unbeaten none wins all (u ∷ us) ≡ first_unbeaten none wins all us = cond-false _ _ _ e in
+            let held = subst (λ x. unbeaten wins more x ≡ true) there j in
+            let within : among us (first_unbeaten none wins all us) ≡ true = elim (or_cases (eqb (first_unbeaten none wins all us) u) _ (subst (λ x. among (u ∷ us) x ≡ true) there i)) [
+              | inl k ↦ absurd (both_ways _ (h u e) (subst (λ x. unbeaten wins more x ≡ true) (eqb-true _ u k) held))
+              | inr k ↦ k
+            ] in
+            cond-false _ _ _ (h u e) ∙ keep all more us rest h within held ∙ sym there
       ]
 
-  pub lead_first_unbeaten : first_unbeaten none wins (filter q (range_with_len 0 n)) (filter q (range_with_len 0 n)) ≡ b
-  lead_first_unbeaten = scan 0 n (omega arith) (omega (arith, lead.below))
+  module _ (order : IsStrictWeakOrder wins) where
+    pub leader_one : (x : ℕ) → leader (x ∷ []) ≡ x
+    leader_one x = cond-true _ _ _ (and_from _ _ (not_from_false _ (self none wins order x)) refl)
+
+    pub leader_takes : (us : List ℕ) (x : ℕ) → ¬ (us ≡ []) → wins x (leader us) ≡ true → leader (us ++ (x ∷ [])) ≡ x
+    leader_takes us x some w =
+        let b = leader us in
+        let f = first_found none wins order us some in
+        let beats : (v : ℕ) → among us v ≡ true → wins x v ≡ true = λ v k. elim (cases_Bool (wins x v)) [ inl e ↦ e | inr e ↦ absurd (both_ways _ (order.chain x v b e (f.1 v k)) w) ] in
+        let free : unbeaten wins us x ≡ true = to_unbeaten none wins us x (λ v k. order.chain v b x (f.1 v k) (order.one_way x b w)) in
+        skip (us ++ (x ∷ [])) us (x ∷ []) (λ v k. unbeaten_push us x v ∙ ap (λ c. unbeaten wins us v && not c) (beats v k) ∙ and_false (unbeaten wins us v))
+        ∙ cond-true _ _ _ (unbeaten_push us x x ∙ and_from _ _ free (not_from_false _ (self none wins order x)))
+      where
+        and_false : (a : Bool) → (a && false) ≡ false
+        and_false a = grind arith
+
+    pub leader_keeps : (us : List ℕ) (x : ℕ) → ¬ (us ≡ []) → wins x (leader us) ≡ false → leader (us ++ (x ∷ [])) ≡ leader us
+    leader_keeps us x some w =
+        let f = first_found none wins order us some in
+        keep us (us ++ (x ∷ [])) us (x ∷ []) (λ v k. unbeaten_push us x v ∙ ap (λ c. c && not (wins x v)) k) f.0
+        (unbeaten_push us x (leader us) ∙ and_from _ _ (to_unbeaten none wins us (leader us) f.1) (not_from_false _ w))

@@ -2,6 +2,7 @@ pub mod Along
 pub mod Among
 pub mod Arranged
 pub mod Bools
+pub mod Candidates
 pub mod Certified
 pub mod Choice
 pub mod Divided
@@ -10,11 +11,8 @@ pub mod Lead
 pub mod Listed
 pub mod Marked
 pub mod Names
-pub mod Owned
 pub mod Pendant
-pub mod Replayed
 pub mod Scan
 pub mod Sets
-pub mod Slots
 pub mod Sums
 pub mod Wholes

@@ -1,5 +1,5 @@
 -- What the search knows of the names of the groups, and the cost of a set of names. Assumes nothing.
-use Rattle.std.proofs.Common.{◌≡◌, ℕ, ◌<◌, Bool, true, false, not, ◌&&◌, ◌≢◌, List, length, sym, refl, ap, ◌∙◌, subst, subst₂, arith}
+use Rattle.std.proofs.Common.{◌≡◌, ℕ, ◌<◌, ◌≤◌, Bool, true, false, not, ◌&&◌, ◌≢◌, List, length, sym, refl, ap, ◌∙◌, subst, subst₂, arith}
 use Rattle.std.proofs.lemmas.Bool.{eq-eqb}
 use Rattle.measure.specs.Laws.{MeasureLaws}
 use Rattle.measure.specs.Rows.{Row, marks}
@@ -11,11 +11,17 @@ use Rattle.search.specs.Rows.{bit, marked_by, unordered}
 use Rattle.search.proofs.Marked.{map_agree, marked_row, marks_marked, complement_marked, either_marked, both_marked, taken}
 use Rattle.search.proofs.Sets.{Set, Fair, among}
 
+pub first_stands : (names : List ℕ) → 0 < length names → Named names → stands names 0 ≡ true
+first_stands names some named = eq-eqb _ _ (first_name names named)
+
 -- n parts, at least one, with well-formed names
 pub record Grouped (n : ℕ) (names : List ℕ) : Type 0 where
   pub some : 0 < n
   pub size : length names ≡ n
   pub named : Named names
+
+pub every_grouped : (names : List ℕ) → (2 ≤ length names) × (length names ≤ 80) → Named names → Grouped (length names) names
+every_grouped names few named = record { some = omega (arith, few); size = refl; named = named }
 
 module _ {n : ℕ} {names : List ℕ} (grouped : Grouped n names) where
   -- a standing name is a part

@@ -1,8 +1,7 @@
 -- The certificate: what a division is worth. `names` gives each part the name of its group. Assumes nothing.
 use Rattle.std.specs.Prelude.{◌≡◌, ℕ, ◌<◌, Bool, true, false, cond, not, ◌&&◌, List, ◌∷◌, ◌++◌, length, ◌==◌, slice_index}
-use Rattle.std.specs.List.{range_with_len, AllByRecursion}
+use Rattle.std.specs.List.{range_with_len, list_any, AllByRecursion}
 use Rattle.cost.specs.declared.line.Line.{Line}
-use Rattle.measure.specs.Lists.{any}
 use Rattle.measure.specs.Rows.{Row, marks}
 
 -- parts p and q lie in one group, and the row marks p and not q
@@ -11,7 +10,7 @@ cuts_between names row p q = slice_index names p == slice_index names q && (mark
 
 -- the row divides a group: it marks one of its parts and leaves another unmarked
 abbrev pub divides : List ℕ → List ℕ → Bool
-divides names row = any (λ p. any (cuts_between names row p) (range_with_len 0 (length names))) (range_with_len 0 (length names))
+divides names row = list_any (λ p. list_any (cuts_between names row p) (range_with_len 0 (length names))) (range_with_len 0 (length names))
 
 -- a row of marks that holds some part, lacks some part and divides no group
 pub record Side (names row : List ℕ) : Type 0 where

@@ -15,6 +15,10 @@ module _ {C X : Type 0} (amount : C → X) (plus : X → X → X) (le : X → X 
   abbrev pub line_of : List ℕ → List ℕ → Line C
   line_of names ordered = record { t = slice_index ordered 1; u = slice_index ordered 0; cost = price (alone names (slice_index ordered 0)) }
 
+  -- the line of a phase with k + 1 groups
+  abbrev pub first_line : ℕ → List ℕ → Line C
+  first_line k names = line_of names (whole_order k names)
+
   -- the lines of k phases, beginning with k + 1 groups
   abbrev pub phases : ℕ → List ℕ → List (Line C)
   phases zero names = []

@@ -2,8 +2,8 @@
 #![tactic(auto)]
 
 pub mod find;
+mod groups;
 mod order;
-mod own;
 mod phases;
 mod rows;
 pub mod split;

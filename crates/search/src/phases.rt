@@ -1,17 +1,12 @@
 // The phases of a search.
-ghost use Rattle.std.specs.Prelude.{◌≡◌, ◌+◌, ◌<◌, ◌≤◌, ◌++◌, length, take, drop, slice_index_or};
-ghost use Rattle.cost.specs.Earliest.{earliest};
-ghost use Rattle.cost.specs.Lines.{line_le};
+ghost use Rattle.std.specs.Prelude.{◌≡◌, ◌+◌, ◌<◌, ◌≤◌, length, take};
 ghost use Rattle.partition.specs.Joined.{joined};
-ghost use Rattle.partition.specs.Names.{Named, groups};
+ghost use Rattle.partition.specs.Names.{groups};
 ghost use Rattle.search.specs.Phases.{phases, side_at};
-ghost use Rattle.search.specs.Rows.{alone};
 
-use crate::order::last_two;
-use crate::own::{own_cost, own_costs, put_line};
+use crate::groups::Groups;
 use crate::rows::mark_alone;
-use cost::kind::CostKind;
-use cost::line::{Line, earliest_line};
+use cost::line::Line;
 use measure::measure::Measure;
 
 // Two groups become one, under the lower name.
@@ -20,74 +15,56 @@ fn join(names: &mut [u8], t: u8, u: u8)
 {
     let high = t.max(u);
     let low = t.min(u);
-    for p in 0..names.len() {
-        if names[p] == high {
-            names[p] = low;
+    for name in names.iter_mut() {
+        if *name == high {
+            *name = low;
         }
     }
 }
 
-// Runs `count` phases, with count + 1 groups at first, and writes a line for each.
-pub(crate) fn find_lines<M: Measure>(
-    measure: &M,
-    names: &mut [u8],
-    count: usize,
-    lines: &mut [Line<M::Cost>],
-    row: &mut [u8],
-    scratch: &mut [u8],
-)
-    requires some { 0 < length names.old }
-    requires parts { length names.old ≡ M.Measure.count measure.now }
-    requires few { length names.old ≤ 80 }
-    requires named { Named names.old }
-    requires groups { groups names.old ≡ count + 1 }
-    requires row { length row.old ≡ length names.old }
-    requires scratch { length scratch.old ≡ length names.old }
-    requires room { count ≤ length lines.old }
-    ensures after { lines.new ≡ phases M.Cost.CostKind.amount M.Cost.CostKind.plus M.Cost.CostKind.le (M.Measure.price measure.now) count names.old ++ drop count lines.old }
+// The names in front of a table of 80.
+fn copied(names: &[u8]) -> [u8; 80]
+    requires few { length names.now ≤ 80 }
+    ensures size { length result ≡ 80 }
+    ensures answer { take (length names.now) result ≡ names.now }
 {
-    for i in 0..count {
-        own_costs(measure, names, scratch, i, lines);
-        let (t, u) = last_two(measure, names, count - i, i, lines, row, scratch);
-        let cost = own_cost(measure, names, i, lines, u as usize);
-        put_line(lines, i, Line { t, u, cost });
-        join(names, t, u);
+    // as long as there may be parts, since a search asks for no memory
+    let mut out = [0u8; 80];
+    out[..names.len()].copy_from_slice(names);
+    out
+}
+
+impl<M: Measure> Groups<'_, M> {
+    // Runs a phase for each of the lines, and writes it; one group more than lines stands at first.
+    pub(crate) fn find_lines(&self, lines: &mut [Line<M::Cost>])
+        requires groups { groups self.now.names.now ≡ length lines.old + 1 }
+        ensures after { lines.new ≡ phases M.Cost.CostKind.amount M.Cost.CostKind.plus M.Cost.CostKind.le (M.Measure.price self.now.measure.now) (length lines.old) self.now.names.now }
+    {
+        let mut buffer = copied(self.names);
+        let work = &mut buffer[..self.names.len()];
+        // a phase takes all lines from place i on
+        for i in 0..lines.len() {
+            let groups = Groups {
+                measure: self.measure,
+                names: work,
+            };
+            let line = groups.run_phase(lines, i);
+            join(work, line.t, line.u);
+        }
     }
 }
 
-fn line_at<C: Copy>(lines: &[Line<C>], i: usize) -> Line<C>
-    requires within { i < length lines.now }
-    ensures answer { result ≡ slice_index_or lines.now i result }
-{
-    lines[i]
-}
-
-// Marks the parts of the group u of a line.
-fn mark_line<C: Copy>(names: &[u8], line: Line<C>, row: &mut [u8])
-    requires row { length row.old ≡ length names.now }
-    ensures after { row.new ≡ alone names.now line.u }
-{
-    mark_alone(names, line.u, row);
-}
-
-// Marks the parts of the group u of the line at place b, in the groups as the lines before it join them.
-pub(crate) fn mark_side<C: Copy>(names: &mut [u8], lines: &[Line<C>], b: usize, row: &mut [u8])
+// Marks the side of the line at place b, in the groups as the lines before it join them.
+pub(crate) fn mark_side<C: Copy>(names: &[u8], lines: &[Line<C>], b: usize, row: &mut [u8])
+    requires few { length names.now ≤ 80 }
     requires within { b < length lines.now }
-    requires row { length row.old ≡ length names.old }
-    ensures after { row.new ≡ side_at b lines.now names.old }
+    requires row { length row.old ≡ length names.now }
+    ensures after { row.new ≡ side_at b lines.now names.now }
 {
-    for i in 0..b {
-        let line = line_at(lines, i);
-        join(names, line.t, line.u);
+    let mut buffer = copied(names);
+    let work = &mut buffer[..names.len()];
+    for line in &lines[..b] {
+        join(work, line.t, line.u);
     }
-    mark_line(names, line_at(lines, b), row);
-}
-
-// The number of the best of the first `count` lines.
-pub(crate) fn best_of<C: CostKind>(lines: &[Line<C>], count: usize) -> usize
-    requires room { count ≤ length lines.now }
-    ensures answer { result ≡ earliest (line_le C.CostKind.amount C.CostKind.le) (take count lines.now) }
-    ensures range { 0 < count → (1 ≤ result) × (result ≤ count) }
-{
-    earliest_line(&lines[0..count])
+    mark_alone(work, lines[b].u, row);
 }

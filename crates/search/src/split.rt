@@ -1,29 +1,30 @@
 // What a search answers, and why it refuses.
-ghost use Rattle.std.specs.Prelude.{◌≡◌};
+ghost use Rattle.std.specs.Prelude.{◌≡◌, Some};
 ghost use Rattle.search.specs.Numbers.{split_number};
+ghost use Rattle.search.specs.Texts.{split_text};
 
+use std::error::Error;
 use std::fmt;
 
-#[derive(Clone, Copy)]
+#[derive(Debug, Clone, Copy, PartialEq, Eq)]
 pub enum SplitFault {
     // the row, or the partition, has not one place for each part
-    Length,
+    Length = 61,
     // fewer lines than groups less one
-    Lines,
+    Lines = 44,
 }
 
 impl SplitFault {
     pub fn number(self) -> u8
         ensures answer { result ≡ split_number self }
     {
-        match self {
-            SplitFault::Length => 61,
-            SplitFault::Lines => 44,
-        }
+        self as u8
     }
 }
 
 impl fmt::Display for SplitFault {
+    ghost output = { λ fault. Some (split_text fault) };
+
     fn fmt<W: fmt::Write>(&self, f: &mut fmt::Formatter<W>) -> fmt::Result {
         match self {
             SplitFault::Length => write!(f, "61: the row has not one mark for each part"),
@@ -31,6 +32,8 @@ impl fmt::Display for SplitFault {
         }
     }
 }
+
+impl Error for SplitFault {}
 
 // The cost of the marked side, how many groups stand, and the number of the best line, from 1.
 #[derive(Clone, Copy)]

@@ -2,5 +2,5 @@ use Rattle.std.proofs.Common.{arith}
 use Rattle.coder.proofs.Basis.{begin, elimination}
 use Rattle.coder.proofs.rank.rank_of.Goals as goal
 
-pub loop-i-init : goal.loop-i-init
-loop-i-init c = (begin _ _, omega arith, elimination _ _ c.requires.long)
+pub loop-column-init : goal.loop-column-init
+loop-column-init c = (begin _ _, omega arith, elimination _ _ c.requires.long)

@@ -2,7 +2,7 @@ use Rattle.std.proofs.Common.{◌≡◌, length, ap, ◌∙◌, arith}
 use Rattle.std.proofs.lemmas.List.{take-replicate}
 use Rattle.coder.specs.Connectivity.{whole}
 use Rattle.coder.specs.Rank.{rank}
-use Rattle.coder.specs.Sides.{rank_covers}
+use Rattle.coder.specs.lemmas.Sides.{rank_covers}
 use Rattle.coder.proofs.rank.rank_of_all.Goals as goal
 
 pub returns : goal.returns

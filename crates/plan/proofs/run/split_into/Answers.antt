@@ -1,12 +1,10 @@
 use Rattle.std.proofs.Common.{◌≡◌, ℕ, ◌-◌, List, take, IfOk, Ok, Result, sym, ap, ◌∙◌, subst, ap₂, subst₂, arith}
 use Rattle.std.proofs.lemmas.List.{with_items_is}
 use Rattle.cost.specs.declared.line.Line.{Line}
-use Rattle.partition.specs.Names.{names_of}
 use Rattle.search.specs.Certificate.{Certified}
 use Rattle.search.specs.Split.{split_answer, row_after, lines_after}
 use Rattle.search.specs.declared.split.Split.{Split}
 use Rattle.search.specs.declared.split.SplitFault.{SplitFault}
-use Rattle.plan.specs.Standing.{standing_of}
 use Rattle.plan.specs.declared.call.Answer.{Answer}
 use Rattle.plan.specs.declared.call.Answer.TheVariants as answer
 use Rattle.plan.proofs.run.split_into.Goals as goal
@@ -20,7 +18,7 @@ returns g c =
     let m = c.args.plan.now.measure in
     let n = g.M.Measure.count m in
     let price = g.M.Measure.price m in
-    let names = standing_of n (names_of c.args.plan.now.groups.table) in
+    let names = c.args.plan.now.groups in
     let row = c.args.row.now in
     let lines = c.args.lines.now in
     let er = c.as_mut_slice-marks.ensures.value in

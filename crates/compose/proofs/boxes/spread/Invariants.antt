@@ -1,8 +1,0 @@
-use Rattle.std.proofs.Common.{◌≡◌, length, take}
-use Rattle.compose.specs.Fold.{spread}
-use Rattle.compose.specs.Folds.{Spreads}
-use Rattle.compose.proofs.boxes.spread.Given as goal
-
--- the parts so far bear their marks
-abbrev pub invariant-loop-i : goal.invariant-loop-i
-invariant-loop-i l = (length l.wide ≡ 80) × (take l.i l.wide ≡ spread (take l.i l.of) l.row) × Spreads l.of l.row

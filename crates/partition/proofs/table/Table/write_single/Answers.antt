@@ -1,6 +1,0 @@
-use Rattle.std.proofs.Common.{refl}
-use Rattle.partition.proofs.Rewrites.{rewrites}
-use Rattle.partition.proofs.table.Table.write_single.Goals as goal
-
-pub loop-i-init : goal.loop-i-init
-loop-i-init c = (refl, refl, c.requires.full, rewrites _ _)
