@@ -29,6 +29,7 @@ impl Closeness {
     }
 }
 
+// The questions read as those of nets do: a text for both would be no shorter than these lines.
 impl Measure for Closeness {
     type Cost = Whole;
 

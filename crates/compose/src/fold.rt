@@ -21,6 +21,7 @@ impl<M: Measure> Fold<M> {
     pub fn make(below: M, boxes: Vec<u8>, m: usize) -> Result<Fold<M>, Refused<(M, Vec<u8>)>>
         ensures cases { MatchResult result (λ f. (verdict (M.Measure.count below) boxes.items m ≡ Ok tt) × (f.below ≡ below) × (f.boxes.of ≡ boxes) × (f.boxes.count ≡ m)) (λ e. (verdict (M.Measure.count below) boxes.items m ≡ Err e.fault) × (e.given.0 ≡ below) × (e.given.1 ≡ boxes)) }
     {
+        // matched, since a refusal takes with it what was given
         match Boxes::make(below.parts(), boxes, m) {
             Ok(boxes) => Ok(Fold { below, boxes }),
             Err(refused) => Err(Refused {

@@ -75,6 +75,7 @@ impl<A: Measure<Cost = Whole>, B: Measure<Cost = Whole>> Sum<A, B> {
     pub fn make(first: A, second: B, p: u64, q: u64) -> Result<Sum<A, B>, Refused<(A, B, u64, u64)>>
         ensures cases { MatchResult result (λ s. (verdict (A.Measure.count first) (B.Measure.count second) p q (A.Measure.top first) (B.Measure.top second) ≡ Ok tt) × (s.first ≡ first) × (s.second ≡ second) × (s.by.p ≡ p) × (s.by.q ≡ q)) (λ e. (verdict (A.Measure.count first) (B.Measure.count second) p q (A.Measure.top first) (B.Measure.top second) ≡ Err e.fault) × (e.given.0 ≡ first) × (e.given.1 ≡ second) × (e.given.2 ≡ p) × (e.given.3 ≡ q)) }
     {
+        // matched, since a refusal takes with it what was given
         match check(&first, &second, p, q) {
             Ok(by) => Ok(Sum { first, second, by }),
             Err(fault) => Err(Refused {

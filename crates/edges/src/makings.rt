@@ -67,13 +67,11 @@ fn rank_is_modulo_two(rt: HostRuntime) -> Result<(), Fail> {
     let Ok(columns) = Columns::make(3, 3, vec![in rt.alloc(); 3u64, 6, 5]?) else {
         return Err(Fail::new("refused"));
     };
-    match columns.rank(&[1, 1, 1]) {
-        Ok(rank) => {
-            assert_eq!(rt; rank, 2);
-            Ok(())
-        },
-        Err(_) => Err(Fail::new("no row of marks")),
-    }
+    let rank = columns
+        .rank(&[1, 1, 1])
+        .map_err(|_| Fail::new("no row of marks"))?;
+    assert_eq!(rt; rank, 2);
+    Ok(())
 }
 
 // A closeness of equal entries and one net between parts 0 and 1, for a sum or a tie to be made of.

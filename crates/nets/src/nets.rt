@@ -34,6 +34,7 @@ impl Nets {
     }
 }
 
+// The questions read as those of closeness do: a text for both would be no shorter than these lines.
 impl Measure for Nets {
     type Cost = Whole;
 
