@@ -1,7 +1,7 @@
 // A figure's table of closeness: what a making lets through, and what a row costs by it.
-ghost use Rattle.std.specs.Prelude.{◌≡◌, ◌<◌, ◌≤◌, cond, length, Ok, Err, MatchResult};
+ghost use Rattle.std.specs.Prelude.{◌≡◌, ◌<◌, ◌≤◌, cond, length, Ok, Err, MatchResult, slice_index};
 ghost use Rattle.std.specs.List.{list_all};
-ghost use Rattle.closeness.specs.Cut.{all_pairs, cut, differs, pair_cost, row_cost, rows_cost};
+ghost use Rattle.closeness.specs.Cut.{all_pairs, cut, differs, row_cost, rows_cost};
 ghost use Rattle.closeness.specs.Making.{Sound, entry_fits, verdict};
 
 use measure::fault::{MakingFault, Refused};
@@ -50,26 +50,25 @@ impl Table {
         Ok(Table { parts, entries })
     }
 
-    // What the pair of part a and a later part b costs: its entry, if b differs from the mark.
-    fn pair_cost(&self, row: &[u8], mark: u8, a: usize, b: usize) -> u64
-        requires first { a < self.now.parts }
-        requires second { b < self.now.parts }
-        requires long { self.now.parts ≤ length row.now }
-        ensures answer { result ≡ cond (differs row.now mark b) (pair_cost self.now.parts self.now.entries.items a b) 0 }
+    // What a pair costs: the entry at its place in the table, if its later part b differs from the mark. By a product: where a branch stands around the entry, the sum is several times slower.
+    fn pair_cost(&self, row: &[u8], mark: u8, at: usize, b: usize) -> u32
+        requires within { at < length self.now.entries.items }
+        requires later { b < length row.now }
+        ensures answer { result ≡ cond (differs row.now mark b) (slice_index self.now.entries.items at) 0 }
         ensures small { result ≤ 999999 }
     {
-        let entry = self.entries[a * self.parts + b];
-        if row[b] != mark { u64::from(entry) } else { 0 }
+        self.entries[at] * u32::from(row[b] != mark)
     }
 
-    // What part a's pairs with the later parts cost, as far as those differ from the mark.
-    fn row_cost(&self, row: &[u8], mark: u8, a: usize) -> u64
+    // What part a's pairs with the later parts cost, as far as those differ from the mark. The beginning of a's row is worked out once.
+    fn row_cost(&self, row: &[u8], mark: u8, a: usize) -> u32
         requires part { a < self.now.parts }
         requires long { self.now.parts ≤ length row.now }
         ensures answer { result ≡ row_cost self.now.parts self.now.entries.items (differs row.now mark) a }
     {
+        let begin = a * self.parts;
         (a + 1..self.parts)
-            .map(|b| self.pair_cost(row, mark, a, b))
+            .map(|b| self.pair_cost(row, mark, begin + b, b))
             .sum()
     }
 
@@ -80,7 +79,7 @@ impl Table {
         ensures answer { result ≡ rows_cost self.now.parts self.now.entries.items row.now marks.now }
     {
         (0..self.parts)
-            .map(|a| self.row_cost(row, marks[a], a))
+            .map(|a| u64::from(self.row_cost(row, marks[a], a)))
             .sum()
     }
 
