@@ -108,6 +108,10 @@ module _ (names : List ℕ) where
         let some = ap length is ∙ length-map (others_below (length names) names) (candidate price names) in
         (at.0, omega (arith, others_few, some, counting_among c.u 1 (length names - 1) (and_parts _ _ (sym (among_kept (stands names) (range_with_len 1 (length names - 1)) c.u) ∙ at.1)).1))
 
+    -- where two groups stand, there is a candidate
+    pub some_candidate : (cs : List (Line C)) → cs ≡ candidates price names → 0 < length names → stands names 0 ≡ true → 2 ≤ groups names → 0 < length cs
+    some_candidate cs is some first two = omega (arith, ap length is, length-map (others_below (length names) names) (candidate price names), others_all some first)
+
     -- the names below p are written in front
     pub record Written (p at : ℕ) (lines : List (Line C)) : Type 0 where
       pub at_is : at ≡ length (others_below p names)

@@ -88,11 +88,11 @@ impl<M: Measure> Phase<'_, M> {
         let mut buffer = [0u8; 80];
         let row = &mut buffer[..names.len()];
         mark_alone(names, 0, row);
-        // the group of part 0 is not asked what it costs
+        // the group of part 0 is not asked what it costs: some candidate's cost stands there until one is ordered
         let mut line = Line {
             t: 0,
             u: 0,
-            cost: self.groups.measure.ceiling(),
+            ..self.candidates[0]
         };
         while let Some(next) = self.next(row) {
             mark_added(names, next.u, row);

@@ -1,6 +1,14 @@
+use Rattle.std.proofs.Common.{arith}
 use Rattle.search.proofs.Along.{along_none, along_marks, along_more, along_all}
-use Rattle.search.proofs.Names.{every_grouped}
+use Rattle.search.proofs.Candidates.{some_candidate}
+use Rattle.search.proofs.Names.{every_grouped, zero_stands}
 use Rattle.search.proofs.order.Phase.line.Goals as goal
+
+pub bounds-self-0 : goal.bounds-self-0
+bounds-self-0 g c =
+    let phase = c.args.self.now in
+    let own = phase.groups in
+    some_candidate own.names.now (g.M.Measure.price own.measure.now) phase.candidates.now phase.all (omega (arith, own.few)) (zero_stands (every_grouped own.names.now own.few own.named)) c.requires.two
 
 pub loop-next-init : goal.loop-next-init
 loop-next-init g c =
