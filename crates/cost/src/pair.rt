@@ -23,19 +23,19 @@ impl CostKind for Pair {
 
     ghost lawful = { Prim.search rules };
 
+    // The second numbers are looked at only where the first are equal: tuples compared as wholes take up to three times as long.
     fn at_most(self, b: Pair) -> bool {
-        (self.first.counted(), self.second.counted()) <= (b.first.counted(), b.second.counted())
+        let first = self.first.counted();
+        let other = b.first.counted();
+        first < other || first == other && self.second.counted() <= b.second.counted()
     }
 
     fn sum_at_most(self, b: Pair, c: Pair, d: Pair) -> bool {
-        let left = (
-            self.first.counted() + b.first.counted(),
-            self.second.counted() + b.second.counted(),
-        );
-        let right = (
-            c.first.counted() + d.first.counted(),
-            c.second.counted() + d.second.counted(),
-        );
-        left <= right
+        let left = self.first.counted() + b.first.counted();
+        let right = c.first.counted() + d.first.counted();
+        left < right
+            || left == right
+                && self.second.counted() + b.second.counted()
+                    <= c.second.counted() + d.second.counted()
     }
 }

@@ -1,24 +1,26 @@
--- The records that have their own part's name are those of the groups. Assumes nothing.
-use Rattle.std.proofs.Common.{◌≡◌, ℕ, suc, ◌+◌, ◌<◌, cond, eqb, ◌==◌, List, [], ◌∷◌, length, get_or, filter, sym, refl, ap, ◌∙◌, ap₂, arith}
-use Rattle.std.specs.List.{enumerate_from, range_with_len}
+-- The parts that name their own group are as many as the groups. Assumes nothing.
+use Rattle.std.proofs.Common.{◌≡◌, Bool, ℕ, ◌+◌, ◌<◌, cond, ◌==◌, List, [], ◌∷◌, length, get_or, filter, sym, refl, ap, ◌∙◌}
+use Rattle.std.specs.List.{range_with_len, sum_by}
 use Rattle.std.proofs.lemmas.List.{get_or-map, length-map}
+use Rattle.std.proofs.lemmas.List.Sums.{sum_by-cons}
 use Rattle.partition.specs.Names.{groups, stands}
-use Rattle.partition.specs.Records.{blank, names_of}
+use Rattle.partition.specs.Records.{names_of}
 use Rattle.partition.specs.declared.table.Record.{Record}
 use Rattle.partition.proofs.Counts.{length_cell}
 
-pub count_groups : (rs : List Record) → length (filter (λ p. p.1.name == p.0) (enumerate_from 0 rs)) ≡ groups (names_of rs)
+-- one for each that passes
+ones : {X : Type 0} (q : X → Bool) (xs : List X) → sum_by (λ x. cond (q x) 1 0) xs ≡ length (filter q xs)
+ones q [] = refl
+ones q (x ∷ xs) =
+    sum_by-cons (λ x. cond (q x) 1 0) x xs
+    ∙ ap (λ n. cond (q x) 1 0 + n) (ones q xs)
+    ∙ sym (length_cell (q x) x (filter q xs))
+
+pub count_groups : (rs : List Record) → sum_by (λ i. cond (stands (names_of rs) i) 1 0) (range_with_len 0 (length rs)) ≡ groups (names_of rs)
 count_groups rs =
-    go 0 rs (λ i l. let e : 0 + i ≡ i = omega arith in ap (λ q. get_or (names_of rs) q 0) e ∙ get_or-map (λ r. r.name) rs i blank 0 l)
+    ones (stands (names_of rs)) (range_with_len 0 (length rs))
     ∙ ap (λ n. length (filter (stands (names_of rs)) (range_with_len 0 n))) (sym (length-map rs _))
-  where
-    go : (k : ℕ) (some : List Record) → ((i : ℕ) → i < length some → get_or (names_of rs) (k + i) 0 ≡ (get_or some i blank).name) →
-        length (filter (λ p. p.1.name == p.0) (enumerate_from k some)) ≡ length (filter (stands (names_of rs)) (range_with_len k (length some)))
-    go k [] h = refl
-    go k (r ∷ some) h =
-        let at : k ≡ k + 0 = omega arith in
-        let here = ap (λ q. get_or (names_of rs) q 0) at ∙ h 0 (omega arith) in
-        let more = go (k + 1) some (λ i l. let e : k + 1 + i ≡ k + suc i = omega arith in ap (λ q. get_or (names_of rs) q 0) e ∙ h (suc i) (omega arith)) in
-        length_cell (r.name == k) (k, r) (filter (λ p. p.1.name == p.0) (enumerate_from (k + 1) some))
-        ∙ ap₂ (λ v n. cond (eqb v k) 1 0 + n) (sym here) more
-        ∙ sym (length_cell (stands (names_of rs) k) k (filter (stands (names_of rs)) (range_with_len (k + 1) (length some))))
+
+-- what a record says of its own part
+pub own_name : (rs : List Record) (i : ℕ) (r : Record) → i < length rs → r ≡ get_or rs i r → (r.name == i) ≡ stands (names_of rs) i
+own_name rs i r within is = ap (λ n. n == i) (ap (λ x. x.name) is ∙ sym (get_or-map (λ r. r.name) rs i r 0 within))

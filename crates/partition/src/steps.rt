@@ -29,7 +29,6 @@ impl Partition {
     }
 
     // How many groups stand.
-    #[tactic(auto, using(crate::proofs::Counted::count_groups))]
     pub fn groups(&self) -> usize
         ensures answer { result ≡ groups self.now }
         ensures two { 2 ≤ result }

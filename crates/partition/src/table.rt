@@ -1,7 +1,7 @@
 // The records of the parts, in a plain struct that changes one record at a time.
-ghost use Rattle.std.specs.Prelude.{◌≡◌, ◌+◌, ◌<◌, ◌≤◌, ◌==◌, filter, length, replicate, slice_index_or, slice_set};
-ghost use Rattle.std.specs.List.{enumerate_from};
-ghost use Rattle.partition.specs.Records.{blank, merged, parted, rewritten};
+ghost use Rattle.std.specs.Prelude.{◌≡◌, ◌+◌, ◌<◌, ◌≤◌, length, replicate, slice_index_or, slice_set};
+ghost use Rattle.partition.specs.Names.{groups, stands};
+ghost use Rattle.partition.specs.Records.{blank, merged, names_of, parted, rewritten};
 
 use std::marker::Model;
 
@@ -73,15 +73,22 @@ impl Table {
         records[i] = r;
     }
 
-    // How many parts name their own group: so many groups stand.
-    pub(crate) fn groups(&self) -> usize
-        ensures answer { result ≡ length (filter (λ p. p.1.name == p.0) (enumerate_from 0 self.now)) }
+    // Does part i name its own group?
+    #[tactic(auto, using(crate::proofs::Counted::own_name))]
+    fn names_own(&self, i: usize) -> bool
+        requires part { i < length self.now }
+        ensures answer { result ≡ stands (names_of self.now) i }
     {
-        self.records[..self.len]
-            .iter()
-            .enumerate()
-            .filter(|(i, r)| usize::from(r.name) == *i)
-            .count()
+        usize::from(self.at(i).name) == i
+    }
+
+    // How many parts name their own group: so many groups stand. Counted by a sum, which has no branch.
+    pub(crate) fn groups(&self) -> usize
+        ensures answer { result ≡ groups (names_of self.now) }
+    {
+        (0..self.len())
+            .map(|i| usize::from(self.names_own(i)))
+            .sum()
     }
 
     // Gives each part of the groups of x and y the lower name and both sizes.
